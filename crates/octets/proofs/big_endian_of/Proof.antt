@@ -1,0 +1,70 @@
+-- The whole spells what n and the bytes from i on spell; n is small enough for a byte more.
+use mathlib.Core.Path.{_≡_, _∙_}
+use Prim.Native.Nat.{_+_, _^_, _≤_, _-_}
+use lib.ListN.{length, drop}
+use Rattle.octets.specs.Numbers.{number}
+use Rattle.octets.proofs.Numbers.{number-over, number-within, number-more, byte-more, byte-most}
+use borrow.Author.Needs.{needs}
+use native.Mathlib.Omega.{arith}
+use Rattle.octets.proofs.big_endian_of.Statement.{statement}
+use Rattle.octets.proofs.big_endian_of.Tie as tie
+
+abbrev Inv-loop : tie.InvT-loop
+Inv-loop s n₀ i₀ n i = (i ≤ length s) × ((n + 1 ≤ 256 ^ i) × (number 256 0 0 s ≡ number 256 0 n (drop i s)))
+
+abbrev μ-loop : tie.MeasureT-loop
+μ-loop s n₀ i₀ n i = length s - i
+
+returns : tie.Need-returns Inv-loop μ-loop
+returns c = search (number-over, needs)
+
+loop-holds : tie.Need-loop-holds Inv-loop μ-loop
+loop-holds c = search needs
+
+mul-n : tie.Need-mul-n Inv-loop μ-loop
+mul-n c = omega (arith, byte-most _ _ (c .before .loop .inv .1 .0) (omega arith))
+
+shared-slice-read-wide : tie.Need-shared-slice-read-wide Inv-loop μ-loop
+shared-slice-read-wide c = search needs
+
+wide-requires : tie.Need-wide-requires Inv-loop μ-loop
+wide-requires c κs = search needs
+
+add-n : tie.Need-add-n Inv-loop μ-loop
+add-n c = omega (arith, byte-most _ _ (c .before .before .before .loop .inv .1 .0) (omega arith), c .wide .ensures .1)
+
+add-i : tie.Need-add-i Inv-loop μ-loop
+add-i c = search needs
+
+loop-less : tie.Need-loop-less Inv-loop μ-loop
+loop-less c = search needs
+
+loop-again : tie.Need-loop-again Inv-loop μ-loop
+loop-again c =
+    let l = c .before .before .before .loop in (
+      omega arith,
+      (
+        byte-more _ _ _ (l .inv .1 .0) (c .wide .ensures .1),
+        l .inv .1 .1 ∙ number-more _ _ _ _ _ _ (c .before .before .loop-test .taken) (omega (arith, c .wide .ensures .0)),
+      ),
+    )
+
+returns-2 : tie.Need-returns-2 Inv-loop μ-loop
+returns-2 c = search (number-within, needs)
+
+pub big-endian-of-spec : {M : Type 1} → statement M
+big-endian-of-spec =
+    tie.close
+    (tie.spec
+    Inv-loop
+    μ-loop
+    returns
+    loop-holds
+    mul-n
+    shared-slice-read-wide
+    wide-requires
+    add-n
+    add-i
+    loop-less
+    loop-again
+    returns-2)
