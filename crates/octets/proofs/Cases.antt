@@ -5,7 +5,7 @@ use mathlib.Core.Bool.{Bool, true, false, not}
 use native.Mathlib.Omega.{arith}
 use lib.Dec.{ltb, leb, eqb}
 use borrow.Author.Tests.{ltb-true, ltb-false, leb-true, leb-false, eqb-true, eqb-false, not-true, not-false}
-use Rattle.octets.specs.Lists.{both}
+use Rattle.octets.specs.Lists.{both, either}
 
 pub false-true : false ≡ true → ⊥
 false-true e = let z : _≡_ {A = ℕ} 0 1 = cc in omega arith
@@ -39,3 +39,16 @@ tested-true flag good e g = sym e ∙ not-false flag g
 
 pub tested-false : (flag good : Bool) → flag ≡ good → not flag ≡ true → good ≡ false
 tested-false flag good e g = sym e ∙ not-true flag g
+
+-- the two ends of a function that tests one thing and then another
+pub either-left : (flag a b : Bool) → flag ≡ a → flag ≡ true → true ≡ either a b
+either-left flag a b e t = rw (← e, t)
+
+pub either-right : (flag a b r : Bool) → flag ≡ a → flag ≡ false → r ≡ b → r ≡ either a b
+either-right flag a b r e t h = rw (← e, t) h
+
+pub both-fails : (flag a b : Bool) → flag ≡ a → not flag ≡ true → false ≡ both a b
+both-fails flag a b e t = rw (← e, not-true flag t)
+
+pub both-goes : (flag a b r : Bool) → flag ≡ a → not flag ≡ false → r ≡ b → r ≡ both a b
+both-goes flag a b r e t h = rw (← e, not-false flag t) h

@@ -1,12 +1,12 @@
 -- The laws of a writing loop and of a testing loop, each once. Assumes nothing.
 use mathlib.Core.Path.{_≡_, refl, sym, ap, _∙_}
 use mathlib.Core.Bool.{Bool, true, false, cond}
-use mathlib.Core.List.{List, [], _∷_, _++_, map}
+use mathlib.Core.List.{List, [], _∷_, _++_, map, append-nil}
 use Prim.Native.Nat.{ℕ, zero, suc, _+_, _≤_, _<_}
 use native.Mathlib.Nat.{le-antisymm, le-of-suc-le-suc, not-suc-le-zero}
 use native.Mathlib.Numerals.{add-one}
 use native.Mathlib.Omega.{arith}
-use lib.ListN.{length, take, drop, getD, set, length-append, length-take, length-drop}
+use lib.ListN.{length, take, drop, getD, set, length-append, length-take, length-drop, drop-of-length-le}
 use lib.Seq.{drop-cons, take-length, drop-length}
 use lib.Dec.{eqb, leb, eqb·suc-suc}
 use borrow.Author.Tests.{le-leb, lt-leb, leb-true, eq-eqb, ne-eqb}
@@ -25,6 +25,10 @@ below-low lo hi x l = rw (lt-leb lo x l)
 pub above-high : (lo hi x : ℕ) → lo ≤ x → hi < x → between lo hi x ≡ false
 unfolding between
 above-high lo hi x l u = rw (le-leb lo x l, lt-leb x hi u)
+
+pub up-to-high : (lo hi x : ℕ) → lo ≤ x → leb x hi ≡ between lo hi x
+unfolding between
+up-to-high lo hi x l = rw (le-leb lo x l)
 
 pub between-low : (lo hi x : ℕ) → between lo hi x ≡ true → lo ≤ x
 unfolding between
@@ -56,6 +60,11 @@ laid-all r d e i he h k = he ∙ ap (laid r d) (le-antisymm h k) ∙ ap (λ (l :
 pub lay-length : (r d : List ℕ) → length r ≤ length d → length (lay r d) ≡ length d
 unfolding lay
 lay-length r d h = simp (length-append, length-drop) (omega arith)
+
+-- bytes as long as the output are all of it
+pub lay-whole : (r d : List ℕ) → length d ≤ length r → lay r d ≡ r
+unfolding lay
+lay-whole r d h = rw (drop-of-length-le d {i = length r} h) (append-nil r)
 
 -- A writer that tests whether its bytes fit: what it leaves in the output. n is their count, as the code has it.
 module _ (r d : List ℕ) (n : ℕ) (sized : length r ≡ n) where

@@ -16,6 +16,16 @@ pub fn wide(b: u8) -> usize
     b as usize
 }
 
+// Whether b lies between low and high.
+pub fn is_between(b: u8, low: u8, high: u8) -> bool
+    ensures { λ r. ⌜ r ≡ between low high b ⌝ }
+{
+    if b < low {
+        return false;
+    }
+    b <= high
+}
+
 // How many bytes at the front of s lie between low and high, up to the first that does not.
 pub fn lead_between(s: &[u8], low: u8, high: u8) -> usize
     ensures { λ r. ⌜ r ≡ lead (between low high) (now (s .entry)) ⌝ }

@@ -1,0 +1,59 @@
+-- One to three chained bitmaps, and sets of fields as 24 bytes of bits that are placed as in the bitmaps.
+--
+--   isField f         == f is the number of a field: 2 to 192 without 65
+--   hasField s f      == field f is present, in the bitmaps or in the set s
+--   countOf s         == how many bitmaps the first two ask for
+--   noFields          == the empty set
+--   withField s f     == the set s with the field f; s where f is no field
+--   chain on x        == the byte x with its first bit as `on` says
+--   mapByte m i x     == byte i of m bitmaps for fields whose bits there are x
+--   mapsFrom m s k i  == k bytes of m bitmaps for the set s, from byte i on
+--   mapsFor m s       == the 24 bytes of m bitmaps for the set s
+--   loaded s          == the 24 bytes of the bitmaps that stand at the front of s
+--
+-- Assumes nothing: these are definitions.
+use Prim.Native.Nat.{ℕ, zero, suc, _+_, _-_, _*_, _/_, _%_}
+use mathlib.Core.Bool.{Bool, true, false, cond, not}
+use mathlib.Core.List.{List, [], _∷_, _++_}
+use lib.ListN.{length, take, getD, set, replicate}
+use lib.Dec.{eqb, leb}
+use Rattle.octets.specs.Lists.{both, between, lay}
+use Rattle.bitmap.specs.Bits.{bit, bitOf, withBit}
+
+-- 01: "Bits 1 and 65 are no fields."
+unfoldable pub isField : ℕ → Bool
+isField f = both (between 2 192 f) (not (eqb f 65))
+
+unfoldable pub hasField : List ℕ → ℕ → Bool
+hasField s f = both (isField f) (bitOf s f)
+
+-- 01: "8 bytes of bitmap; 8 more if bit 1 is set; 8 more if bit 65, the first bit of the second bitmap, is set"
+unfoldable pub countOf : List ℕ → ℕ
+countOf s = cond (bitOf s 1) (cond (bitOf s 65) 3 2) 1
+
+abbrev pub noFields : List ℕ
+noFields = replicate 24 0
+
+unfoldable pub withField : List ℕ → ℕ → List ℕ
+withField s f = cond (isField f) (set s ((f - 1) / 8) (withBit (getD s ((f - 1) / 8) 0) ((f - 1) % 8))) s
+
+abbrev pub chain : Bool → ℕ → ℕ
+chain on x = 128 * bit on + x % 128
+
+-- the first bit of the first bitmap says whether there is a second, and that of the second whether there is a third
+unfoldable pub mapByte : ℕ → ℕ → ℕ → ℕ
+mapByte m i x =
+    cond (leb (8 * m) i) 0
+    (cond (eqb i 0) (chain (leb 2 m) x)
+    (cond (eqb i 8) (chain (leb 3 m) x) x))
+
+unfoldable pub mapsFrom : ℕ → List ℕ → ℕ → ℕ → List ℕ
+mapsFrom m s zero i = []
+mapsFrom m s (suc k) i = mapByte m i (getD s i 0) ∷ mapsFrom m s k (suc i)
+
+unfoldable pub mapsFor : ℕ → List ℕ → List ℕ
+unfolding mapsFrom
+mapsFor m s = mapsFrom m s 24 0
+
+unfoldable pub loaded : List ℕ → List ℕ
+loaded s = lay (take (8 * countOf s) s) noFields

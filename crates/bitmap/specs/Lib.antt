@@ -1,0 +1,2 @@
+pub mod Bitmaps
+pub mod Bits
