@@ -3,6 +3,8 @@
 --   isField f         == f is the number of a field: 2 to 192 without 65
 --   hasField s f      == field f is present, in the bitmaps or in the set s
 --   countOf s         == how many bitmaps the first two ask for
+--   fieldsFrom p k f  == those of the k numbers from f on that pass p, rising
+--   fieldsOf s m      == the fields present in the m bitmaps s, rising
 --   noFields          == the empty set
 --   withField s f     == the set s with the field f; s where f is no field
 --   chain on x        == the byte x with its first bit as `on` says
@@ -30,6 +32,13 @@ hasField s f = both (isField f) (bitOf s f)
 -- 01: "8 bytes of bitmap; 8 more if bit 1 is set; 8 more if bit 65, the first bit of the second bitmap, is set"
 unfoldable pub countOf : List ℕ → ℕ
 countOf s = cond (bitOf s 1) (cond (bitOf s 65) 3 2) 1
+
+unfoldable pub fieldsFrom : (ℕ → Bool) → ℕ → ℕ → List ℕ
+fieldsFrom p zero f = []
+fieldsFrom p (suc k) f = elim (p f) [ true ↦ f ∷ fieldsFrom p k (f + 1) | false ↦ fieldsFrom p k (f + 1) ]
+
+unfoldable pub fieldsOf : List ℕ → ℕ → List ℕ
+fieldsOf s m = fieldsFrom (hasField s) (64 * m) 1
 
 abbrev pub noFields : List ℕ
 noFields = replicate 24 0

@@ -1,0 +1,69 @@
+-- The list of the fields present: a number at a time, and how many there are. Assumes nothing.
+use Prim.Native.Nat.{ℕ, zero, suc, _+_, _-_, _*_, _≤_, _<_}
+use mathlib.Core.Path.{_≡_, refl, sym, ap, _∙_}
+use mathlib.Core.Bool.{Bool, true, false}
+use mathlib.Core.List.{List, [], _∷_, _++_}
+use native.Mathlib.Omega.{arith}
+use native.Mathlib.Nat.{zero-add, add-zero}
+use lib.ListN.{length, length-append}
+use Rattle.octets.specs.Lists.{between}
+use Rattle.octets.proofs.Cases.{by-bool, by-le}
+use Rattle.bitmap.specs.Bitmaps.{isField, hasField, fieldsFrom, fieldsOf}
+
+-- a number more, with the counter as a loop from f to end has it
+module _ (p : ℕ → Bool) (end f : ℕ) (more : f < end) where
+  less : end - f ≡ suc (end - (f + 1))
+  less = omega arith
+
+  pub fields-skip : p f ≡ false → fieldsFrom p (end - f) f ≡ fieldsFrom p (end - (f + 1)) (f + 1)
+  unfolding fieldsFrom
+  fields-skip h = rw (less, fieldsFrom, h)
+
+  pub fields-here : p f ≡ true → fieldsFrom p (end - f) f ≡ f ∷ fieldsFrom p (end - (f + 1)) (f + 1)
+  unfolding fieldsFrom
+  fields-here h = rw (less, fieldsFrom, h)
+
+pub fields-end : (p : ℕ → Bool) (end f : ℕ) → end ≤ f → fieldsFrom p (end - f) f ≡ []
+unfolding fieldsFrom
+fields-end p end f h = let z : end - f ≡ 0 = omega arith in rw z
+
+-- how many there are
+fields-most : (p : ℕ → Bool) (k f : ℕ) → length (fieldsFrom p k f) ≤ k
+unfolding fieldsFrom
+fields-most p zero f = omega arith
+fields-most p (suc k) f =
+    let h = fields-most p k (f + 1) in
+    by-bool (p f) (λ t. rw (fieldsFrom, t) (omega arith)) (λ t. rw (fieldsFrom, t) (omega arith))
+
+fields-split : (p : ℕ → Bool) (k j f : ℕ) → fieldsFrom p (k + j) f ≡ fieldsFrom p k f ++ fieldsFrom p j (f + k)
+unfolding fieldsFrom
+fields-split p zero j f = rw (zero-add j, add-zero f)
+fields-split p (suc k) j f =
+    let n : suc k + j ≡ suc (k + j) = omega arith in
+    let m : f + 1 + k ≡ f + suc k = omega arith in
+    let h : fieldsFrom p (k + j) (f + 1) ≡ fieldsFrom p k (f + 1) ++ fieldsFrom p j (f + suc k) = fields-split p k j (f + 1) ∙ rw m in
+    by-bool (p f)
+    (λ t. rw (n, fieldsFrom, t) (ap (λ (l : List ℕ). f ∷ l) h))
+    (λ t. rw (n, fieldsFrom, t) h)
+
+fields-one : (p : ℕ → Bool) (f : ℕ) → p f ≡ false → fieldsFrom p 1 f ≡ []
+unfolding fieldsFrom
+fields-one p f h = rw (fieldsFrom, h)
+
+-- bits 1 and 65 are no fields: of 192 bits, at most 190 are
+pub fields-few : (s : List ℕ) (m : ℕ) → m ≤ 3 → length (fieldsOf s m) ≤ 190
+unfolding fieldsOf hasField isField between
+fields-few s m h =
+    by-le m 2
+    (λ k. omega (arith, fields-most (hasField s) (64 * m) 1))
+    (λ k.
+    let e : m ≡ 3 = omega arith in
+    let a : length (fieldsFrom (hasField s) 192 1) ≡ length (fieldsFrom (hasField s) 1 1) + length (fieldsFrom (hasField s) 191 2) =
+    ap length (fields-split (hasField s) 1 191 1) ∙ length-append (fieldsFrom (hasField s) 1 1) (fieldsFrom (hasField s) 191 2) in
+    let b : length (fieldsFrom (hasField s) 191 2) ≡ length (fieldsFrom (hasField s) 63 2) + length (fieldsFrom (hasField s) 128 65) =
+    ap length (fields-split (hasField s) 63 128 2) ∙ length-append (fieldsFrom (hasField s) 63 2) (fieldsFrom (hasField s) 128 65) in
+    let c : length (fieldsFrom (hasField s) 128 65) ≡ length (fieldsFrom (hasField s) 1 65) + length (fieldsFrom (hasField s) 127 66) =
+    ap length (fields-split (hasField s) 1 127 65) ∙ length-append (fieldsFrom (hasField s) 1 65) (fieldsFrom (hasField s) 127 66) in
+    let z : length (fieldsFrom (hasField s) 1 1) ≡ 0 = ap length (fields-one (hasField s) 1 refl) in
+    let y : length (fieldsFrom (hasField s) 1 65) ≡ 0 = ap length (fields-one (hasField s) 65 refl) in
+    rw e (omega (arith, fields-most (hasField s) 63 2, fields-most (hasField s) 127 66)))

@@ -1,0 +1,53 @@
+-- Notes: the bytes that spell a reading. 01: "A note is one byte of kind, then a body whose length the kind fixes. Numbers are big-endian."
+--
+--   headNote mti m       == the head: kind 0x01, the MTI, the count m of bitmaps
+--   fieldNote e          == a field: kind 0x02, its number (1), the offset of its content (4), its length (2)
+--   endNote u            == the end: kind 0x04, the length u of the message (4)
+--   fieldNotes es        == a field note for each entry, in order
+--   notesOf r u          == "One head, field notes in rising number, one end note" of the reading r of a message u bytes long
+--   headSize, fieldNoteSize, endSize
+--                        == how long each is
+--   notesRoom            == what the notes of any message fit in: a head, 190 fields and an end
+--
+-- Assumes nothing: these are definitions.
+use Prim.Native.Nat.{ℕ, _+_, _*_}
+use mathlib.Core.List.{List, [], _∷_, _++_}
+use Rattle.octets.specs.Numbers.{bigEndian}
+use Rattle.message_language.specs.Language.{Entry, Reading}
+
+abbrev pub headKind : ℕ
+headKind = 1
+
+abbrev pub fieldKind : ℕ
+fieldKind = 2
+
+abbrev pub endKind : ℕ
+endKind = 4
+
+abbrev pub headSize : ℕ
+headSize = 6
+
+abbrev pub fieldNoteSize : ℕ
+fieldNoteSize = 8
+
+abbrev pub endSize : ℕ
+endSize = 5
+
+abbrev pub notesRoom : ℕ
+notesRoom = headSize + 190 * fieldNoteSize + endSize
+
+unfoldable pub headNote : List ℕ → ℕ → List ℕ
+headNote mti m = headKind ∷ (mti ++ bigEndian 1 m)
+
+unfoldable pub fieldNote : Entry → List ℕ
+fieldNote e = fieldKind ∷ (bigEndian 1 (e .number) ++ (bigEndian 4 (e .offset) ++ bigEndian 2 (e .size)))
+
+unfoldable pub endNote : ℕ → List ℕ
+endNote u = endKind ∷ bigEndian 4 u
+
+unfoldable pub fieldNotes : List Entry → List ℕ
+fieldNotes [] = []
+fieldNotes (e ∷ es) = fieldNote e ++ fieldNotes es
+
+unfoldable pub notesOf : Reading → ℕ → List ℕ
+notesOf r u = headNote (r .mti) (r .count) ++ (fieldNotes (r .entries) ++ endNote u)

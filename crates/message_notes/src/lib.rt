@@ -1,0 +1,60 @@
+// The bytes of notes. 01, "Notes". A changed layout moves these routines and their definitions, and nothing above them.
+ghost use mathlib.Core.Path.{_≡_};
+ghost use Rattle.octets.specs.Lists.{placed};
+ghost use Rattle.message_language.specs.Language.{entry};
+ghost use Rattle.message_notes.specs.Notes.{headNote, fieldNote, endNote};
+
+pub const HEAD_KIND: u8 = 1;
+
+pub const FIELD_KIND: u8 = 2;
+
+pub const END_KIND: u8 = 4;
+
+pub const HEAD_SIZE: usize = 6;
+
+pub const FIELD_NOTE_SIZE: usize = 8;
+
+pub const END_SIZE: usize = 5;
+
+// The notes of any message fit in this: a head, 190 fields and an end.
+pub const NOTES_ROOM: usize = HEAD_SIZE + 190 * FIELD_NOTE_SIZE + END_SIZE;
+
+// Writes the head note to the front of out. Where it does not fit, out is left as it is.
+pub fn put_head(mti: &[u8], count: usize, out: &mut [u8])
+    ensures { λ _. ⌜ now (out .exit) ≡ placed (headNote (now (mti .entry)) count) (now (out .entry)) ⌝ }
+{
+    if out.len() < 2 {
+        return;
+    }
+    if out.len() - 2 < mti.len() {
+        return;
+    }
+    out[0] = HEAD_KIND;
+    octets::put(mti, &mut out[1..]);
+    let at = 1 + mti.len();
+    octets::put_big_endian(count, 1, &mut out[at..]);
+}
+
+// Writes the note of a field to the front of out. Where it does not fit, out is left as it is.
+pub fn put_field(number: usize, offset: usize, length: usize, out: &mut [u8])
+    ensures { λ _. ⌜ now (out .exit) ≡ placed (fieldNote (entry number offset length)) (now (out .entry)) ⌝ }
+{
+    if out.len() < FIELD_NOTE_SIZE {
+        return;
+    }
+    out[0] = FIELD_KIND;
+    octets::put_big_endian(number, 1, &mut out[1..]);
+    octets::put_big_endian(offset, 4, &mut out[2..]);
+    octets::put_big_endian(length, 2, &mut out[6..]);
+}
+
+// Writes the end note to the front of out. Where it does not fit, out is left as it is.
+pub fn put_end(used: usize, out: &mut [u8])
+    ensures { λ _. ⌜ now (out .exit) ≡ placed (endNote used) (now (out .entry)) ⌝ }
+{
+    if out.len() < END_SIZE {
+        return;
+    }
+    out[0] = END_KIND;
+    octets::put_big_endian(used, 4, &mut out[1..]);
+}
