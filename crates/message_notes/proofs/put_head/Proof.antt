@@ -93,7 +93,7 @@ returns-3 c =
     let e2 = placed-part (1 ∷ m) (bigEndian 1 (a .count)) d _ _ (1 + length m) e1 (omega arith) (omega arith)
     (c2 .before .before .put-big-endian .ensures) in
     let n2 = length-append m (bigEndian 1 (a .count)) in
-    placed-done _ _ _ (head-long _ _) _ (omega arith) e2
+    placed-done _ d _ (head-long m (a .count)) _ (omega arith) e2
 
 pub put-head-spec : {M : Type 1} → statement M
 put-head-spec =
