@@ -44,3 +44,60 @@ placed-part a b d e f n he hn room hf =
     let l : length e ≡ length d = ap length he ∙ lay-length a d (omega arith) in
     let m : length (midOf n (length e - n) e) ≡ length e - n = ap length (part-rest n e) ∙ length-drop n e in
     lay-part a b d e f n he hn (hf ∙ placed-fits b (midOf n (length e - n) e) (length b) refl (omega arith))
+
+-- A writing loop: the output o has been written up to `at`. What stands there and what is still to come make the whole,
+-- and what lies behind is as it was in d.
+pub record Written (whole d o rest : List ℕ) (at : ℕ) : Type 0 where
+  pub front : take at o ++ rest ≡ whole
+  pub back : drop at o ≡ drop at d
+  pub size : length o ≡ length d
+  pub within : at ≤ length o
+
+pub written-none : (whole d : List ℕ) → Written whole d d whole 0
+written-none whole d = record { front = refl; back = refl; size = refl; within = omega arith }
+
+pub written-room : (whole d o rest : List ℕ) (at : ℕ) → Written whole d o rest at → at + length rest ≡ length whole
+written-room whole d o rest at w = omega (arith, simp (length-append, length-take) at (ap length (w .front)), w .within)
+
+module _ (whole d o r rest : List ℕ) (at : ℕ) (w : Written whole d o (r ++ rest) at) (room : at + length r ≤ length o) where
+  grown : List ℕ
+  grown = take at o ++ lay r (drop at o)
+
+  parts : grown ≡ (take at o ++ r) ++ drop (at + length r) d
+  unfolding grown lay
+  parts = rw (append-assoc, drop-drop (length r) at o, ← drop-drop (length r) at o, w .back, drop-drop (length r) at d)
+
+  front-length : length (take at o ++ r) ≡ at + length r
+  front-length = let h = w .within in simp (length-append, length-take) (omega arith)
+
+  grown-written : Written whole d grown rest (at + length r)
+  grown-written =
+      let h = w .within in
+      let s = w .size in
+      let l : length grown ≡ length d =
+      ap length parts ∙ length-append (take at o ++ r) (drop (at + length r) d) ∙ omega (arith, front-length, length-drop (at + length r) d) in
+      record {
+        front =
+            ap (λ (x : List ℕ). take (at + length r) x ++ rest) parts
+            ∙ ap (λ (x : List ℕ). x ++ rest) (take-at (take at o ++ r) (drop (at + length r) d) (at + length r) front-length)
+            ∙ append-assoc (take at o) r rest ∙ w .front;
+        back = ap (drop (at + length r)) parts ∙ drop-at (take at o ++ r) (drop (at + length r) d) (at + length r) front-length;
+        size = l;
+        within = omega arith;
+      }
+
+-- as the code has it: a writer was lent the rest of o, and placed r at its front
+pub written-more : (whole d o old r rest f : List ℕ) (at k : ℕ) → Written whole d o old at → old ≡ r ++ rest → length r ≡ k → at + k ≤ length o
+    → f ≡ placed r (midOf at (length o - at) o) → Written whole d (putMid at (length o - at) o f) rest (at + k)
+unfolding grown
+written-more whole d o old r rest f at k w he hk room hf =
+    let m : length (midOf at (length o - at) o) ≡ length o - at = ap length (part-rest at o) ∙ length-drop at o in
+    let p : f ≡ lay r (midOf at (length o - at) o) = hf ∙ placed-fits r (midOf at (length o - at) o) k hk (omega arith) in
+    rw (part-back at o f, p, part-rest at o, ← hk) (grown-written whole d o r rest at (rw he at w) (omega arith))
+
+pub written-end : (whole d o rest : List ℕ) (at : ℕ) → Written whole d o rest at → rest ≡ [] → (at ≡ length whole) × (o ≡ lay whole d)
+unfolding lay
+written-end whole d o rest at w e =
+    let v = rw e at w in
+    let n : at ≡ length whole = omega (arith, written-room whole d o [] at v) in
+    (n, sym (take-append-drop at o) ∙ rw (v .back, ← append-nil (take at o), v .front, n))

@@ -1,0 +1,29 @@
+-- A conversion has three ends: the source fails, the output is too short, or the bytes are written.
+use Rattle.refusal.proofs.Conversions.{refused-answer, refused-output, short-answer, short-output, done-answer, done-output}
+use Rattle.encoding_bcd.proofs.Faults.{decode-clean, unpacked-sized}
+use borrow.Author.Needs.{needs}
+use Rattle.encoding_bcd.proofs.decode.Statement.{statement}
+use Rattle.encoding_bcd.proofs.decode.Tie as tie
+
+decode-fault-requires : tie.Need-decode-fault-requires
+decode-fault-requires c κs = search needs
+
+returns : tie.Need-returns
+returns c = search (refused-answer, refused-output, needs)
+
+returns-2 : tie.Need-returns-2
+returns-2 c = search (short-answer, short-output, unpacked-sized, needs)
+
+put-unpacked-requires : tie.Need-put-unpacked-requires
+put-unpacked-requires c κs = (search (decode-clean, needs), search needs)
+
+same-length : tie.Need-same-length
+same-length c = search needs
+
+returns-3 : tie.Need-returns-3
+returns-3 c = search (done-answer, done-output, unpacked-sized, needs)
+
+pub decode-spec : {M : Type 1} → statement M
+decode-spec =
+    tie.close
+    (tie.spec decode-fault-requires returns returns-2 put-unpacked-requires same-length returns-3)

@@ -1,0 +1,40 @@
+-- A conversion has three ends: the source fails, the output is too short, or the bytes are written.
+use Rattle.refusal.proofs.Conversions.{refused-answer, refused-output, short-answer, short-output, done-answer, done-output}
+use Rattle.encoding_bcd.proofs.Packing.{packed-sized}
+use Rattle.encoding_bcd.proofs.Faults.{encode-clean}
+use borrow.Author.Needs.{needs}
+use Rattle.encoding_bcd.proofs.encode.Statement.{statement}
+use Rattle.encoding_bcd.proofs.encode.Tie as tie
+
+encode-fault-requires : tie.Need-encode-fault-requires
+encode-fault-requires c κs = search needs
+
+returns : tie.Need-returns
+returns c = search (refused-answer, refused-output, needs)
+
+bytes-of-requires : tie.Need-bytes-of-requires
+bytes-of-requires c κs = search needs
+
+returns-2 : tie.Need-returns-2
+returns-2 c = search (short-answer, short-output, packed-sized, needs)
+
+put-packed-requires : tie.Need-put-packed-requires
+put-packed-requires c κs = (search (encode-clean, needs), search needs)
+
+same-length : tie.Need-same-length
+same-length c = search needs
+
+returns-3 : tie.Need-returns-3
+returns-3 c = search (done-answer, done-output, packed-sized, needs)
+
+pub encode-spec : {M : Type 1} → statement M
+encode-spec =
+    tie.close
+    (tie.spec
+    encode-fault-requires
+    returns
+    bytes-of-requires
+    returns-2
+    put-packed-requires
+    same-length
+    returns-3)

@@ -1,0 +1,62 @@
+-- The ends of decoding, in the order of its tests.
+use Rattle.encoding_length.proofs.Measures.{digits-wrong, bytes-wrong, passed-up, read-room, read-count, read-few, measured-text}
+use borrow.Author.Needs.{needs}
+use Rattle.encoding_length.proofs.decode.Statement.{statement}
+use Rattle.encoding_length.proofs.decode.Tie as tie
+
+is-width-requires : tie.Need-is-width-requires
+is-width-requires c κs = search needs
+
+returns : tie.Need-returns
+returns c = search (digits-wrong, needs)
+
+size-of-requires : tie.Need-size-of-requires
+size-of-requires c κs = search needs
+
+returns-2 : tie.Need-returns-2
+returns-2 c = search (bytes-wrong, needs)
+
+slice-aggregate-put-text : tie.Need-slice-aggregate-put-text
+slice-aggregate-put-text c = search needs
+
+put-text-requires : tie.Need-put-text-requires
+put-text-requires c κs = search needs
+
+enum-known-why : tie.Need-enum-known-why
+enum-known-why c = search needs
+
+enum-known-n : tie.Need-enum-known-n
+enum-known-n c = search needs
+
+array-share-prefix-text : tie.Need-array-share-prefix-text
+array-share-prefix-text c = search (read-room, needs)
+
+slice-aggregate-measure : tie.Need-slice-aggregate-measure
+slice-aggregate-measure c = search (read-count, needs)
+
+measure-requires : tie.Need-measure-requires
+measure-requires c κs = search (read-few, needs)
+
+returns-3 : tie.Need-returns-3
+returns-3 c = search (passed-up, needs)
+
+returns-4 : tie.Need-returns-4
+returns-4 c = search (measured-text, needs)
+
+pub decode-spec : {M : Type 1} → statement M
+decode-spec =
+    tie.close
+    (tie.spec
+    is-width-requires
+    returns
+    size-of-requires
+    returns-2
+    slice-aggregate-put-text
+    put-text-requires
+    enum-known-why
+    enum-known-n
+    array-share-prefix-text
+    slice-aggregate-measure
+    measure-requires
+    returns-3
+    returns-4)

@@ -1,0 +1,47 @@
+-- The digits of the length are the front of the text, and no encoding refuses them.
+use Rattle.refusal.proofs.Conversions.{refused-answer, refused-output}
+use Rattle.encoding_length.proofs.Texts.{text-room, text-count, text-digits, encoded-answer, encoded-output}
+use borrow.Author.Needs.{needs}
+use Rattle.encoding_length.proofs.encode.Statement.{statement}
+use Rattle.encoding_length.proofs.encode.Tie as tie
+
+encode-fault-requires : tie.Need-encode-fault-requires
+encode-fault-requires c κs = search needs
+
+returns : tie.Need-returns
+returns c = search (refused-answer, refused-output, needs)
+
+slice-aggregate-put-decimal : tie.Need-slice-aggregate-put-decimal
+slice-aggregate-put-decimal c = search needs
+
+put-decimal-requires : tie.Need-put-decimal-requires
+put-decimal-requires c κs = search needs
+
+array-share-prefix-text : tie.Need-array-share-prefix-text
+array-share-prefix-text c = search (text-room, needs)
+
+slice-aggregate-put-spelt : tie.Need-slice-aggregate-put-spelt
+slice-aggregate-put-spelt c = search (text-count, needs)
+
+put-spelt-requires : tie.Need-put-spelt-requires
+put-spelt-requires c κs = search (text-digits, needs)
+
+same-length : tie.Need-same-length
+same-length c = search needs
+
+returns-2 : tie.Need-returns-2
+returns-2 c = (search (encoded-answer, needs), search (encoded-output, needs))
+
+pub encode-spec : {M : Type 1} → statement M
+encode-spec =
+    tie.close
+    (tie.spec
+    encode-fault-requires
+    returns
+    slice-aggregate-put-decimal
+    put-decimal-requires
+    array-share-prefix-text
+    slice-aggregate-put-spelt
+    put-spelt-requires
+    same-length
+    returns-2)

@@ -1,0 +1,4 @@
+pub mod Fields
+pub mod Heads
+pub mod Language
+pub mod Turns

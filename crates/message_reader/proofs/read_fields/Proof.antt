@@ -1,0 +1,185 @@
+-- Reading from the start is reading what is left from the place and the number that the loop has come to (Turns).
+use mathlib.Core.Path.{_≡_, sym, ap, _∙_}
+use mathlib.Core.Bool.{true, false}
+use mathlib.Core.List.{List}
+use Prim.Native.Nat.{ℕ, _+_, _*_, _-_}
+use Rattle.field_table.specs.House.{house}
+use Rattle.bitmap.specs.Bitmaps.{hasField}
+use Rattle.message_reader.specs.Reader.{mapsOf}
+use Rattle.message_reader.proofs.Turns.{maps-part, at-part, Scanned, scan-first, scan-skip, scan-refused, scan-within, scan-read, scan-end}
+use borrow.Author.Needs.{needs}
+use native.Mathlib.Omega.{arith}
+use Rattle.message_reader.proofs.read_fields.Statement.{statement}
+use Rattle.message_reader.proofs.read_fields.Tie as tie
+
+abbrev Inv-loop : tie.InvT-loop
+Inv-loop message bitmaps start end maps at₀ field₀ at field = Scanned house message bitmaps at field
+
+abbrev μ-loop : tie.MeasureT-loop
+μ-loop message bitmaps start end maps at₀ field₀ at field = 64 * bitmaps + 1 - field
+
+mul-start : tie.Need-mul-start Inv-loop μ-loop
+mul-start c = search needs
+
+add-start : tie.Need-add-start Inv-loop μ-loop
+add-start c = search needs
+
+mul-end : tie.Need-mul-end Inv-loop μ-loop
+mul-end c = search needs
+
+add-end : tie.Need-add-end Inv-loop μ-loop
+add-end c = search needs
+
+sub-maps : tie.Need-sub-maps Inv-loop μ-loop
+sub-maps c = search needs
+
+part-maps-start : tie.Need-part-maps-start Inv-loop μ-loop
+part-maps-start c = search needs
+
+part-maps-end : tie.Need-part-maps-end Inv-loop μ-loop
+part-maps-end c = search needs
+
+loop-holds : tie.Need-loop-holds Inv-loop μ-loop
+loop-holds c = scan-first _ _ _ (c .before .before .pre .1)
+
+has-field-requires : tie.Need-has-field-requires Inv-loop μ-loop
+has-field-requires c κs = search needs
+
+sub-read-field : tie.Need-sub-read-field Inv-loop μ-loop
+sub-read-field c = search needs
+
+part-read-field-start : tie.Need-part-read-field-start Inv-loop μ-loop
+part-read-field-start c = search needs
+
+part-read-field-end : tie.Need-part-read-field-end Inv-loop μ-loop
+part-read-field-end c = search needs
+
+read-field-requires : tie.Need-read-field-requires Inv-loop μ-loop
+read-field-requires c κs = search needs
+
+enum-known-number : tie.Need-enum-known-number Inv-loop μ-loop
+enum-known-number c = search needs
+
+returns : tie.Need-returns Inv-loop μ-loop
+returns c =
+    let rf = c .before .before .before in
+    let then = rf .before .before in
+    let l = then .before .before .before in
+    let a = l .before .before .before .args in
+    let s = a .message .now in
+    let m = a .bitmaps in
+    let at = l .loop .at in
+    let f = l .loop .field in
+    let y : hasField (mapsOf s m) f ≡ true =
+    ap (λ (x : List ℕ). hasField x f) (sym (maps-part s m)) ∙ sym (then .before .has-field .ensures) ∙ then .if1 .taken in
+    let e = at-part house s at f _ _ (rf .read-field .ensures) (c .before .number .given .1) in
+    scan-refused house s m at f (l .loop .inv) (then .before .before .loop-test .taken) y _ e
+
+enum-known-start : tie.Need-enum-known-start Inv-loop μ-loop
+enum-known-start c = search needs
+
+add-at : tie.Need-add-at Inv-loop μ-loop
+add-at c =
+    let rf = c .before .before .before in
+    let then = rf .before .before in
+    let l = then .before .before .before in
+    let a = l .before .before .before .args in
+    let s = a .message .now in
+    let m = a .bitmaps in
+    let at = l .loop .at in
+    let f = l .loop .field in
+    let y : hasField (mapsOf s m) f ≡ true =
+    ap (λ (x : List ℕ). hasField x f) (sym (maps-part s m)) ∙ sym (then .before .has-field .ensures) ∙ then .if1 .taken in
+    let e = at-part house s at f _ _ (rf .read-field .ensures) (c .before .start .given .1) in
+    omega (arith, scan-within house s m at f (l .loop .inv) (then .before .before .loop-test .taken) y _ _ e)
+
+add-at-2 : tie.Need-add-at-2 Inv-loop μ-loop
+add-at-2 c =
+    let rf = c .before .before .before in
+    let then = rf .before .before in
+    let l = then .before .before .before in
+    let a = l .before .before .before .args in
+    let s = a .message .now in
+    let m = a .bitmaps in
+    let at = l .loop .at in
+    let f = l .loop .field in
+    let y : hasField (mapsOf s m) f ≡ true =
+    ap (λ (x : List ℕ). hasField x f) (sym (maps-part s m)) ∙ sym (then .before .has-field .ensures) ∙ then .if1 .taken in
+    let e = at-part house s at f _ _ (rf .read-field .ensures) (c .before .start .given .1) in
+    omega (arith, scan-within house s m at f (l .loop .inv) (then .before .before .loop-test .taken) y _ _ e)
+
+add-field : tie.Need-add-field Inv-loop μ-loop
+add-field c = search needs
+
+loop-less : tie.Need-loop-less Inv-loop μ-loop
+loop-less c =
+    let i = c .before .before .before .before .before .before .before in
+    omega (arith, i .loop-test .taken)
+
+loop-again : tie.Need-loop-again Inv-loop μ-loop
+loop-again c =
+    let rf = c .before .before .before in
+    let then = rf .before .before in
+    let l = then .before .before .before in
+    let a = l .before .before .before .args in
+    let s = a .message .now in
+    let m = a .bitmaps in
+    let at = l .loop .at in
+    let f = l .loop .field in
+    let y : hasField (mapsOf s m) f ≡ true =
+    ap (λ (x : List ℕ). hasField x f) (sym (maps-part s m)) ∙ sym (then .before .has-field .ensures) ∙ then .if1 .taken in
+    let e = at-part house s at f _ _ (rf .read-field .ensures) (c .before .start .given .1) in
+    scan-read house s m at f (l .loop .inv) (then .before .before .loop-test .taken) y _ _ e
+
+add-field-2 : tie.Need-add-field-2 Inv-loop μ-loop
+add-field-2 c = search needs
+
+loop-less-2 : tie.Need-loop-less-2 Inv-loop μ-loop
+loop-less-2 c = omega (arith, c .before .before .loop-test .taken)
+
+loop-again-2 : tie.Need-loop-again-2 Inv-loop μ-loop
+loop-again-2 c =
+    let l = c .before .before .before in
+    let a = l .before .before .before .args in
+    let s = a .message .now in
+    let m = a .bitmaps in
+    let at = l .loop .at in
+    let f = l .loop .field in
+    let n : hasField (mapsOf s m) f ≡ false =
+    ap (λ (x : List ℕ). hasField x f) (sym (maps-part s m)) ∙ sym (c .before .has-field .ensures) ∙ c .if1 .left in
+    scan-skip house s m at f (l .loop .inv) (c .before .before .loop-test .taken) n
+
+returns-2 : tie.Need-returns-2 Inv-loop μ-loop
+returns-2 c = scan-end _ _ _ _ _ (c .before .loop .inv) (c .loop-test .left)
+
+pub read-fields-spec : {M : Type 1} → statement M
+read-fields-spec =
+    tie.close
+    (tie.spec
+    Inv-loop
+    μ-loop
+    mul-start
+    add-start
+    mul-end
+    add-end
+    sub-maps
+    part-maps-start
+    part-maps-end
+    loop-holds
+    has-field-requires
+    sub-read-field
+    part-read-field-start
+    part-read-field-end
+    read-field-requires
+    enum-known-number
+    returns
+    enum-known-start
+    add-at
+    add-at-2
+    add-field
+    loop-less
+    loop-again
+    add-field-2
+    loop-less-2
+    loop-again-2
+    returns-2)

@@ -1,0 +1,160 @@
+// The reader: reads a message without changing it, and notes where each field's content is. 01, "The message" and "Notes".
+use field_read::FieldRead;
+use refusal::Refusal;
+ghost use mathlib.Core.Path.{_≡_};
+ghost use Prim.Native.Nat.{_≤_, _<_, _+_, _*_};
+ghost use lib.ListN.{length, take, drop};
+ghost use Rattle.octets.specs.Lists.{lay};
+ghost use Rattle.field_table.specs.House.{house};
+ghost use Rattle.bitmap.specs.Bitmaps.{fieldsOf};
+ghost use Rattle.message_notes.specs.Notes.{notesOf, fieldNotes, notesRoom, fieldNoteSize};
+ghost use Rattle.message_reader.specs.Reader.{headRead, mapsRead, mapsOf, readBody, entriesOf, readingWith, readAnswer, notesAfter};
+
+// The bytes used and the count of bitmaps, or the refusal.
+pub enum ReadAnswer {
+    Accepted { used: usize, bitmaps: usize },
+    Refused(Refusal),
+}
+
+// How many bitmaps there are, or the refusal.
+pub enum HeadRead {
+    Bitmaps(usize),
+    Refused(Refusal),
+}
+
+// The place after the last field, or the refusal.
+pub enum FieldsRead {
+    Used(usize),
+    Refused(Refusal),
+}
+
+// Reads the MTI and finds how many bitmaps there are.
+fn read_head(message: &[u8]) -> HeadRead
+    ensures { λ r. ⌜ r ≡ headRead (now (message .entry)) ⌝ }
+{
+    if message.len() < 12 {
+        return HeadRead::Refused(Refusal {
+            number: refusal::MESSAGE_TOO_SHORT,
+            field: 0,
+            position: 0,
+        });
+    }
+    let digits = octets::lead_between(&message[..4], 48, 57);
+    if digits < 4 {
+        return HeadRead::Refused(Refusal {
+            number: refusal::MTI_NOT_DIGITS,
+            field: 0,
+            position: digits,
+        });
+    }
+    read_bitmaps(message)
+}
+
+// Finds how many bitmaps there are after the MTI, each of them whole.
+fn read_bitmaps(message: &[u8]) -> HeadRead
+    requires { ⌜ 12 ≤ length (now message) ⌝ }
+    ensures { λ r. ⌜ r ≡ mapsRead (now (message .entry)) ⌝ }
+{
+    let maps = &message[4..];
+    if !bitmap::is_set(maps, 1) {
+        return HeadRead::Bitmaps(1);
+    }
+    if message.len() < 20 {
+        return HeadRead::Refused(Refusal {
+            number: refusal::BITMAP_INCOMPLETE,
+            field: 0,
+            position: 12,
+        });
+    }
+    if !bitmap::is_set(maps, 65) {
+        return HeadRead::Bitmaps(2);
+    }
+    if message.len() < 28 {
+        return HeadRead::Refused(Refusal {
+            number: refusal::BITMAP_INCOMPLETE,
+            field: 0,
+            position: 20,
+        });
+    }
+    HeadRead::Bitmaps(3)
+}
+
+// Reads every field that the bitmaps name, each from the rest of the message. Nothing is written.
+fn read_fields(message: &[u8], bitmaps: usize) -> FieldsRead
+    requires { ⌜ bitmaps ≤ 3 ⌝ }
+    requires { ⌜ 4 + 8 * bitmaps ≤ length (now message) ⌝ }
+    ensures { λ r. ⌜ r ≡ readBody house (now (message .entry)) bitmaps ⌝ }
+{
+    let start = 4 + 8 * bitmaps;
+    let end = 64 * bitmaps + 1;
+    let maps = &message[4..start];
+    let mut at = start;
+    let mut field: usize = 1;
+    while field < end {
+        if bitmap::has_field(maps, field) {
+            match field_read::read_field(&message[at..], field) {
+                FieldRead::Refused(number) => {
+                    return FieldsRead::Refused(Refusal {
+                        number,
+                        field,
+                        position: at,
+                    });
+                }
+                FieldRead::Content { start, length } => {
+                    at = at + (start + length);
+                    field += 1;
+                }
+            }
+        } else {
+            field += 1;
+        }
+    }
+    FieldsRead::Used(at)
+}
+
+// Writes the notes of a message that is known to be good.
+fn write_notes(message: &[u8], bitmaps: usize, used: usize, notes: &mut [u8])
+    requires { ⌜ bitmaps ≤ 3 ⌝ }
+    requires { ⌜ 4 + 8 * bitmaps ≤ length (now message) ⌝ }
+    requires { ⌜ notesRoom ≤ length (now notes) ⌝ }
+    ensures { λ _. ⌜ now (notes .exit) ≡ lay (notesOf (readingWith house (now (message .entry)) bitmaps) used) (now (notes .entry)) ⌝ }
+{
+    message_notes::put_head(&message[..4], bitmaps, notes);
+    let written = write_fields(message, bitmaps, &mut notes[message_notes::HEAD_SIZE..]);
+    let end = message_notes::HEAD_SIZE + written;
+    message_notes::put_end(used, &mut notes[end..]);
+}
+
+// Writes a note for each field, one behind the other, and answers how many bytes they take.
+fn write_fields(message: &[u8], bitmaps: usize, notes: &mut [u8]) -> usize
+    requires { ⌜ bitmaps ≤ 3 ⌝ }
+    requires { ⌜ 4 + 8 * bitmaps ≤ length (now message) ⌝ }
+    requires { ⌜ 190 * fieldNoteSize ≤ length (now notes) ⌝ }
+    ensures size { λ r. ⌜ r ≡ length (fieldNotes (readingWith house (now (message .entry)) bitmaps .entries)) ⌝ }
+    ensures writes { λ _. ⌜ now (notes .exit) ≡ lay (fieldNotes (readingWith house (now (message .entry)) bitmaps .entries)) (now (notes .entry)) ⌝ }
+{
+    let start = 4 + 8 * bitmaps;
+    let end = 64 * bitmaps + 1;
+    let maps = &message[4..start];
+    let mut at = start;
+    let mut written: usize = 0;
+    let mut field: usize = 1;
+    while field < end {
+        if bitmap::has_field(maps, field) {
+            match field_read::read_field(&message[at..], field) {
+                FieldRead::Refused(_) => {
+                    return written;
+                }
+                FieldRead::Content { start, length } => {
+                    message_notes::put_field(field, at + start, length, &mut notes[written..]);
+                    at = at + (start + length);
+                    written += message_notes::FIELD_NOTE_SIZE;
+                    field += 1;
+                }
+            }
+        } else {
+            field += 1;
+        }
+    }
+    written
+}
