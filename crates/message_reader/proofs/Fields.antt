@@ -183,3 +183,12 @@ given-more t at f fs after ds c rest es i k =
 pub given : (t : Table) {at : ℕ} {fs bs : List ℕ} {es : List Entry} → Fields t at fs bs es → (after : List ℕ) → Given t at fs bs after es
 given t {at} none after = given-none t at after
 given t {at} (more {f = f} {fs = fs} {es = es} ds c rest i b g) after = rw b (given-more t at f fs after ds c rest es i (given t g after))
+
+-- no more entries than fields
+pub entries-most : (t : Table) (at : ℕ) (fs s : List ℕ) → length (entriesOf t at fs s) ≤ length fs
+unfolding entriesOf
+entries-most t at [] s = omega arith
+entries-most t at (f ∷ fs) s =
+    by-read (readField t f s)
+    (λ n e. rw (entries-refused t at f fs s n e) (omega arith))
+    (λ a n e. rw (entries-read t at f fs s a n e) (omega (arith, entries-most t (at + (a + n)) fs (drop (a + n) s))))

@@ -28,6 +28,30 @@ pub enum FieldsRead {
     Refused(Refusal),
 }
 
+// Reads the message at the front of an input, and writes its notes to the front of notes. A refusal leaves notes as they were.
+pub fn read(message: &[u8], notes: &mut [u8]) -> ReadAnswer
+    ensures answers { λ r. ⌜ r ≡ readAnswer house (now (message .entry)) (now (notes .entry)) ⌝ }
+    ensures writes { λ _. ⌜ now (notes .exit) ≡ notesAfter house (now (message .entry)) (now (notes .entry)) ⌝ }
+{
+    if notes.len() < message_notes::NOTES_ROOM {
+        return ReadAnswer::Refused(Refusal {
+            number: refusal::NOTES_TOO_SHORT,
+            field: 0,
+            position: 0,
+        });
+    }
+    match read_head(message) {
+        HeadRead::Refused(refusal) => ReadAnswer::Refused(refusal),
+        HeadRead::Bitmaps(bitmaps) => match read_fields(message, bitmaps) {
+            FieldsRead::Refused(refusal) => ReadAnswer::Refused(refusal),
+            FieldsRead::Used(used) => {
+                write_notes(message, bitmaps, used, notes);
+                ReadAnswer::Accepted { used, bitmaps }
+            }
+        },
+    }
+}
+
 // Reads the MTI and finds how many bitmaps there are.
 fn read_head(message: &[u8]) -> HeadRead
     ensures { λ r. ⌜ r ≡ headRead (now (message .entry)) ⌝ }

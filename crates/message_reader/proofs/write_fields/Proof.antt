@@ -1,149 +1,236 @@
+-- The notes written and those of what is left from the place and the number that the loop has come to make the whole (Noting).
+use mathlib.Core.Path.{_≡_, sym, ap, _∙_}
+use mathlib.Core.Bool.{true, false}
+use mathlib.Core.List.{List}
+use Prim.Native.Nat.{ℕ, _+_, _*_, _-_}
+use Rattle.field_table.specs.House.{house}
+use Rattle.bitmap.specs.Bitmaps.{hasField}
+use Rattle.message_reader.specs.Reader.{mapsOf}
+use Rattle.message_reader.proofs.Turns.{maps-part, at-part}
+use Rattle.message_reader.proofs.Noting.{Noted, noted-first, noted-skip, noted-refused, noted-room, noted-within, noted-read, noted-end}
 use borrow.Author.Needs.{needs}
+use native.Mathlib.Omega.{arith}
 use Rattle.message_reader.proofs.write_fields.Statement.{statement}
 use Rattle.message_reader.proofs.write_fields.Tie as tie
-use Rattle.message_reader.proofs.write_fields.Reads as reads
-use Rattle.message_reader.proofs.write_fields.Lts as lts
-use Rattle.bitmap.proofs.has_field.Reads as has-field-reads
-use Rattle.field_read.proofs.read_field.Reads as read-field-reads
-use Rattle.message_notes.proofs.put_field.Reads as put-field-reads
 
 abbrev Inv-loop : tie.InvT-loop
-Inv-loop message bitmaps notes₀ start end maps at₀ written₀ field₀ notes at written field = ?
+Inv-loop message bitmaps notes₀ start end maps at₀ written₀ field₀ notes at written field = Noted house message bitmaps notes₀ notes at written field
 
 abbrev μ-loop : tie.MeasureT-loop
-μ-loop message bitmaps notes₀ start end maps at₀ written₀ field₀ notes at written field = ?
+μ-loop message bitmaps notes₀ start end maps at₀ written₀ field₀ notes at written field = 64 * bitmaps + 1 - field
 
--- src/lib.rt:136:21
 mul-start : tie.Need-mul-start Inv-loop μ-loop
 mul-start c = search needs
 
--- src/lib.rt:136:17
 add-start : tie.Need-add-start Inv-loop μ-loop
 add-start c = search needs
 
--- src/lib.rt:137:15
 mul-end : tie.Need-mul-end Inv-loop μ-loop
 mul-end c = search needs
 
--- src/lib.rt:137:15
 add-end : tie.Need-add-end Inv-loop μ-loop
 add-end c = search needs
 
--- src/lib.rt:138:16
 sub-maps : tie.Need-sub-maps Inv-loop μ-loop
 sub-maps c = search needs
 
--- src/lib.rt:138:16
 part-maps-start : tie.Need-part-maps-start Inv-loop μ-loop
 part-maps-start c = search needs
 
--- src/lib.rt:138:16
 part-maps-end : tie.Need-part-maps-end Inv-loop μ-loop
 part-maps-end c = search needs
 
--- src/lib.rt:142:5
 loop-holds : tie.Need-loop-holds Inv-loop μ-loop
-loop-holds c = search needs
+loop-holds c = let r = c .before .before .before .pre in noted-first _ _ _ _ (r .0) (r .1 .0) (r .1 .1)
 
--- src/lib.rt:143:12
 has-field-requires : tie.Need-has-field-requires Inv-loop μ-loop
 has-field-requires c κs = search needs
 
--- src/lib.rt:144:42
 sub-read-field : tie.Need-sub-read-field Inv-loop μ-loop
 sub-read-field c = search needs
 
--- src/lib.rt:144:42
 part-read-field-start : tie.Need-part-read-field-start Inv-loop μ-loop
 part-read-field-start c = search needs
 
--- src/lib.rt:144:42
 part-read-field-end : tie.Need-part-read-field-end Inv-loop μ-loop
 part-read-field-end c = search needs
 
--- src/lib.rt:144:19
 read-field-requires : tie.Need-read-field-requires Inv-loop μ-loop
 read-field-requires c κs = search needs
 
--- src/lib.rt:146:21
 enum-told : tie.Need-enum-told Inv-loop μ-loop
 enum-told c = search needs
 
--- src/lib.rt:146:21
 same-length : tie.Need-same-length Inv-loop μ-loop
-same-length c = search needs
+same-length c = c .before .before .before .before .before .before .before .loop .inv .written .size
 
--- src/lib.rt:146:21
 returns : tie.Need-returns Inv-loop μ-loop
-returns c = search needs
+returns c =
+    let rf = c .before .before in
+    let then = rf .before .before in
+    let l = then .before .before .before in
+    let a = l .before .before .before .before .args in
+    let s = a .message .now in
+    let m = a .bitmaps in
+    let at = l .loop .at in
+    let f = l .loop .field in
+    let go = then .before .before .loop-test .taken in
+    let y : hasField (mapsOf s m) f ≡ true =
+    ap (λ (x : List ℕ). hasField x f) (sym (maps-part s m)) ∙ sym (then .before .has-field .ensures) ∙ then .if1 .taken in
+    let e = at-part house s at f _ _ (rf .read-field .ensures) (c .enum-told .given .1) in
+    noted-refused house s m (a .notes .now) (l .loop .notes) at (l .loop .written) f (l .loop .inv) go y _ e
 
--- src/lib.rt:148:38
 enum-known-start : tie.Need-enum-known-start Inv-loop μ-loop
 enum-known-start c = search needs
 
--- src/lib.rt:149:53
 add-put-field : tie.Need-add-put-field Inv-loop μ-loop
-add-put-field c = search needs
+add-put-field c =
+    let rf = c .before .before .before in
+    let then = rf .before .before in
+    let l = then .before .before .before in
+    let a = l .before .before .before .before .args in
+    let s = a .message .now in
+    let m = a .bitmaps in
+    let at = l .loop .at in
+    let f = l .loop .field in
+    let go = then .before .before .loop-test .taken in
+    let y : hasField (mapsOf s m) f ≡ true =
+    ap (λ (x : List ℕ). hasField x f) (sym (maps-part s m)) ∙ sym (then .before .has-field .ensures) ∙ then .if1 .taken in
+    let e = at-part house s at f _ _ (rf .read-field .ensures) (c .before .start .given .1) in
+    omega (arith, noted-within house s m (a .notes .now) (l .loop .notes) at (l .loop .written) f (l .loop .inv) go y _ _ e)
 
--- src/lib.rt:149:73
 sub-put-field : tie.Need-sub-put-field Inv-loop μ-loop
-sub-put-field c = search needs
+sub-put-field c =
+    let rf = c .before .before .before in
+    let then = rf .before .before in
+    let l = then .before .before .before in
+    let a = l .before .before .before .before .args in
+    let s = a .message .now in
+    let m = a .bitmaps in
+    let at = l .loop .at in
+    let f = l .loop .field in
+    let go = then .before .before .loop-test .taken in
+    let y : hasField (mapsOf s m) f ≡ true =
+    ap (λ (x : List ℕ). hasField x f) (sym (maps-part s m)) ∙ sym (then .before .has-field .ensures) ∙ then .if1 .taken in
+    let e = at-part house s at f _ _ (rf .read-field .ensures) (c .before .start .given .1) in
+    omega (arith, noted-room house s m (a .notes .now) (l .loop .notes) at (l .loop .written) f (l .loop .inv) go y)
 
--- src/lib.rt:149:73
 part-put-field-start : tie.Need-part-put-field-start Inv-loop μ-loop
-part-put-field-start c = search needs
+part-put-field-start c =
+    let rf = c .before .before .before in
+    let then = rf .before .before in
+    let l = then .before .before .before in
+    let a = l .before .before .before .before .args in
+    let s = a .message .now in
+    let m = a .bitmaps in
+    let at = l .loop .at in
+    let f = l .loop .field in
+    let go = then .before .before .loop-test .taken in
+    let y : hasField (mapsOf s m) f ≡ true =
+    ap (λ (x : List ℕ). hasField x f) (sym (maps-part s m)) ∙ sym (then .before .has-field .ensures) ∙ then .if1 .taken in
+    let e = at-part house s at f _ _ (rf .read-field .ensures) (c .before .start .given .1) in
+    omega (arith, noted-room house s m (a .notes .now) (l .loop .notes) at (l .loop .written) f (l .loop .inv) go y)
 
--- src/lib.rt:149:73
 part-put-field-end : tie.Need-part-put-field-end Inv-loop μ-loop
 part-put-field-end c = search needs
 
--- src/lib.rt:149:21
 put-field-requires : tie.Need-put-field-requires Inv-loop μ-loop
 put-field-requires c κs = search needs
 
--- src/lib.rt:150:32
 add-at : tie.Need-add-at Inv-loop μ-loop
-add-at c = search needs
+add-at c =
+    let rf = c .before .before .before .before .before .before .before in
+    let then = rf .before .before in
+    let l = then .before .before .before in
+    let a = l .before .before .before .before .args in
+    let s = a .message .now in
+    let m = a .bitmaps in
+    let at = l .loop .at in
+    let f = l .loop .field in
+    let go = then .before .before .loop-test .taken in
+    let y : hasField (mapsOf s m) f ≡ true =
+    ap (λ (x : List ℕ). hasField x f) (sym (maps-part s m)) ∙ sym (then .before .has-field .ensures) ∙ then .if1 .taken in
+    let e = at-part house s at f _ _ (rf .read-field .ensures) (c .before .before .before .before .before .start .given .1) in
+    omega (arith, noted-within house s m (a .notes .now) (l .loop .notes) at (l .loop .written) f (l .loop .inv) go y _ _ e)
 
--- src/lib.rt:150:26
 add-at-2 : tie.Need-add-at-2 Inv-loop μ-loop
-add-at-2 c = search needs
+add-at-2 c =
+    let rf = c .before .before .before .before .before .before .before in
+    let then = rf .before .before in
+    let l = then .before .before .before in
+    let a = l .before .before .before .before .args in
+    let s = a .message .now in
+    let m = a .bitmaps in
+    let at = l .loop .at in
+    let f = l .loop .field in
+    let go = then .before .before .loop-test .taken in
+    let y : hasField (mapsOf s m) f ≡ true =
+    ap (λ (x : List ℕ). hasField x f) (sym (maps-part s m)) ∙ sym (then .before .has-field .ensures) ∙ then .if1 .taken in
+    let e = at-part house s at f _ _ (rf .read-field .ensures) (c .before .before .before .before .before .start .given .1) in
+    omega (arith, noted-within house s m (a .notes .now) (l .loop .notes) at (l .loop .written) f (l .loop .inv) go y _ _ e)
 
--- src/lib.rt:151:21
 add-written : tie.Need-add-written Inv-loop μ-loop
-add-written c = search needs
+add-written c =
+    let rf = c .before .before .before .before .before .before .before in
+    let then = rf .before .before in
+    let l = then .before .before .before in
+    let a = l .before .before .before .before .args in
+    let s = a .message .now in
+    let m = a .bitmaps in
+    let at = l .loop .at in
+    let f = l .loop .field in
+    let go = then .before .before .loop-test .taken in
+    let y : hasField (mapsOf s m) f ≡ true =
+    ap (λ (x : List ℕ). hasField x f) (sym (maps-part s m)) ∙ sym (then .before .has-field .ensures) ∙ then .if1 .taken in
+    let e = at-part house s at f _ _ (rf .read-field .ensures) (c .before .before .before .before .before .start .given .1) in
+    omega (arith, noted-room house s m (a .notes .now) (l .loop .notes) at (l .loop .written) f (l .loop .inv) go y)
 
--- src/lib.rt:152:21
 add-field : tie.Need-add-field Inv-loop μ-loop
 add-field c = search needs
 
--- src/lib.rt:142:5
 loop-less : tie.Need-loop-less Inv-loop μ-loop
-loop-less c = search needs
+loop-less c = omega (arith, c .before .before .before .before .before .before .before .before .before .before .before .loop-test .taken)
 
--- src/lib.rt:142:5
 loop-again : tie.Need-loop-again Inv-loop μ-loop
-loop-again c = search needs
+loop-again c =
+    let rf = c .before .before .before .before .before .before .before in
+    let then = rf .before .before in
+    let l = then .before .before .before in
+    let a = l .before .before .before .before .args in
+    let s = a .message .now in
+    let m = a .bitmaps in
+    let at = l .loop .at in
+    let f = l .loop .field in
+    let go = then .before .before .loop-test .taken in
+    let y : hasField (mapsOf s m) f ≡ true =
+    ap (λ (x : List ℕ). hasField x f) (sym (maps-part s m)) ∙ sym (then .before .has-field .ensures) ∙ then .if1 .taken in
+    let e = at-part house s at f _ _ (rf .read-field .ensures) (c .before .before .before .before .before .start .given .1) in
+    noted-read house s m (a .notes .now) (l .loop .notes) at (l .loop .written) f (l .loop .inv) go y _ _ e _ (c .before .before .put-field .ensures)
 
--- src/lib.rt:156:13
 add-field-2 : tie.Need-add-field-2 Inv-loop μ-loop
 add-field-2 c = search needs
 
--- src/lib.rt:142:5
 loop-less-2 : tie.Need-loop-less-2 Inv-loop μ-loop
-loop-less-2 c = search needs
+loop-less-2 c = omega (arith, c .before .before .loop-test .taken)
 
--- src/lib.rt:142:5
 loop-again-2 : tie.Need-loop-again-2 Inv-loop μ-loop
-loop-again-2 c = search needs
+loop-again-2 c =
+    let l = c .before .before .before in
+    let a = l .before .before .before .before .args in
+    let s = a .message .now in
+    let m = a .bitmaps in
+    let at = l .loop .at in
+    let f = l .loop .field in
+    let go = c .before .before .loop-test .taken in
+    let n : hasField (mapsOf s m) f ≡ false =
+    ap (λ (x : List ℕ). hasField x f) (sym (maps-part s m)) ∙ sym (c .before .has-field .ensures) ∙ c .if1 .left in
+    noted-skip house s m (a .notes .now) (l .loop .notes) at (l .loop .written) f (l .loop .inv) go n
 
--- src/lib.rt:129:1
 same-length-2 : tie.Need-same-length-2 Inv-loop μ-loop
-same-length-2 c = search needs
+same-length-2 c = c .before .loop .inv .written .size
 
--- src/lib.rt:129:1
 returns-2 : tie.Need-returns-2 Inv-loop μ-loop
-returns-2 c = search needs
+returns-2 c = noted-end _ _ _ _ _ _ _ _ (c .before .loop .inv) (c .loop-test .left)
 
 pub write-fields-spec : {M : Type 1} → statement M
 write-fields-spec =

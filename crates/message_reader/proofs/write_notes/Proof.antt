@@ -1,0 +1,143 @@
+-- The head is laid first, then the fields behind it, then the end.
+use mathlib.Core.Path.{_≡_, sym, ap, _∙_}
+use mathlib.Core.List.{List, _++_}
+use Prim.Native.Nat.{ℕ, _+_, _≤_, _-_}
+use lib.ListN.{length, take, length-append}
+use lib.Seq.{length-take-le}
+use Rattle.octets.specs.Lists.{lay}
+use Rattle.field_table.specs.House.{house}
+use mathlib.Core.List.{append-assoc}
+use Rattle.octets.proofs.Lists.{lay-length, placed-fits}
+use Rattle.octets.proofs.Parts.{lay-part, placed-part}
+use Rattle.message_notes.specs.Notes.{headNote, endNote, fieldNotes, notesOf}
+use Rattle.message_notes.proofs.Sizes.{head-long, end-long}
+use Rattle.message_reader.specs.Reader.{readingWith}
+use Rattle.message_reader.proofs.Noting.{notes-few}
+use borrow.Author.Needs.{needs}
+use native.Mathlib.Omega.{arith}
+use Rattle.message_reader.proofs.write_notes.Statement.{statement}
+use Rattle.message_reader.proofs.write_notes.Tie as tie
+
+slice-aggregate-put-head : tie.Need-slice-aggregate-put-head
+slice-aggregate-put-head c = sym (length-take-le 4 (c .before .before .before .args .message .now) (omega arith))
+
+put-head-requires : tie.Need-put-head-requires
+put-head-requires c κs = search needs
+
+sub-write-fields : tie.Need-sub-write-fields
+sub-write-fields c = search needs
+
+part-write-fields-start : tie.Need-part-write-fields-start
+part-write-fields-start c = search needs
+
+part-write-fields-end : tie.Need-part-write-fields-end
+part-write-fields-end c = search needs
+
+write-fields-requires : tie.Need-write-fields-requires
+write-fields-requires c κs = search needs
+
+add-end : tie.Need-add-end
+add-end c =
+    let k = c in
+    let b = k .before .before .before .before .before .before in
+    let p = b .before .before .before .before .before in
+    let a = p .args in
+    let s = a .message .now in
+    let d = a .notes .now in
+    let h = headNote (take 4 s) (a .bitmaps) in
+    let n = fieldNotes (readingWith house s (a .bitmaps) .entries) in
+    let l : length h ≡ 6 = head-long (take 4 s) (a .bitmaps) ∙ omega (arith, length-take-le 4 s (omega (arith, p .pre .1 .0))) in
+    let few : length n ≤ 1520 = notes-few house s (a .bitmaps) (p .pre .0) in
+    let room : 1531 ≤ length d = p .pre .1 .1 in
+    let w = k .before .before .write-fields .ensures .0 in
+    let e1 = b .put-head .ensures ∙ placed-fits h d 6 l (omega arith) in
+    let e2 = lay-part h n d _ _ 6 e1 l (k .before .before .write-fields .ensures .1) in
+    let both : length (h ++ n) ≡ length h + length n = length-append h n in
+    omega arith
+
+sub-put-end : tie.Need-sub-put-end
+sub-put-end c =
+    let k = c in
+    let b = k .before .before .before .before .before .before in
+    let p = b .before .before .before .before .before in
+    let a = p .args in
+    let s = a .message .now in
+    let d = a .notes .now in
+    let h = headNote (take 4 s) (a .bitmaps) in
+    let n = fieldNotes (readingWith house s (a .bitmaps) .entries) in
+    let l : length h ≡ 6 = head-long (take 4 s) (a .bitmaps) ∙ omega (arith, length-take-le 4 s (omega (arith, p .pre .1 .0))) in
+    let few : length n ≤ 1520 = notes-few house s (a .bitmaps) (p .pre .0) in
+    let room : 1531 ≤ length d = p .pre .1 .1 in
+    let w = k .before .before .write-fields .ensures .0 in
+    let e1 = b .put-head .ensures ∙ placed-fits h d 6 l (omega arith) in
+    let e2 = lay-part h n d _ _ 6 e1 l (k .before .before .write-fields .ensures .1) in
+    let both : length (h ++ n) ≡ length h + length n = length-append h n in
+    omega (arith, ap length e2 ∙ lay-length (h ++ n) d (omega arith))
+
+part-put-end-start : tie.Need-part-put-end-start
+part-put-end-start c =
+    let k = c in
+    let b = k .before .before .before .before .before .before in
+    let p = b .before .before .before .before .before in
+    let a = p .args in
+    let s = a .message .now in
+    let d = a .notes .now in
+    let h = headNote (take 4 s) (a .bitmaps) in
+    let n = fieldNotes (readingWith house s (a .bitmaps) .entries) in
+    let l : length h ≡ 6 = head-long (take 4 s) (a .bitmaps) ∙ omega (arith, length-take-le 4 s (omega (arith, p .pre .1 .0))) in
+    let few : length n ≤ 1520 = notes-few house s (a .bitmaps) (p .pre .0) in
+    let room : 1531 ≤ length d = p .pre .1 .1 in
+    let w = k .before .before .write-fields .ensures .0 in
+    let e1 = b .put-head .ensures ∙ placed-fits h d 6 l (omega arith) in
+    let e2 = lay-part h n d _ _ 6 e1 l (k .before .before .write-fields .ensures .1) in
+    let both : length (h ++ n) ≡ length h + length n = length-append h n in
+    omega (arith, ap length e2 ∙ lay-length (h ++ n) d (omega arith))
+
+part-put-end-end : tie.Need-part-put-end-end
+part-put-end-end c = search needs
+
+put-end-requires : tie.Need-put-end-requires
+put-end-requires c κs = search needs
+
+same-length : tie.Need-same-length
+same-length c = search needs
+
+returns : tie.Need-returns
+unfolding notesOf readingWith
+returns c =
+    let k = c .before .before .before .before in
+    let b = k .before .before .before .before .before .before in
+    let p = b .before .before .before .before .before in
+    let a = p .args in
+    let s = a .message .now in
+    let d = a .notes .now in
+    let h = headNote (take 4 s) (a .bitmaps) in
+    let n = fieldNotes (readingWith house s (a .bitmaps) .entries) in
+    let l : length h ≡ 6 = head-long (take 4 s) (a .bitmaps) ∙ omega (arith, length-take-le 4 s (omega (arith, p .pre .1 .0))) in
+    let few : length n ≤ 1520 = notes-few house s (a .bitmaps) (p .pre .0) in
+    let room : 1531 ≤ length d = p .pre .1 .1 in
+    let w = k .before .before .write-fields .ensures .0 in
+    let e1 = b .put-head .ensures ∙ placed-fits h d 6 l (omega arith) in
+    let e2 = lay-part h n d _ _ 6 e1 l (k .before .before .write-fields .ensures .1) in
+    let both : length (h ++ n) ≡ length h + length n = length-append h n in
+    let u = endNote (a .used) in
+    placed-part (h ++ n) u d _ _ _ e2 (omega arith) (omega (arith, end-long (a .used))) (c .before .before .put-end .ensures)
+    ∙ ap (λ (x : List ℕ). lay x d) (append-assoc h n u)
+
+pub write-notes-spec : {M : Type 1} → statement M
+write-notes-spec =
+    tie.close
+    (tie.spec
+    slice-aggregate-put-head
+    put-head-requires
+    sub-write-fields
+    part-write-fields-start
+    part-write-fields-end
+    write-fields-requires
+    add-end
+    sub-put-end
+    part-put-end-start
+    part-put-end-end
+    put-end-requires
+    same-length
+    returns)
