@@ -7,13 +7,16 @@
 --   notesOf r u          == "One head, field notes in rising number, one end note" of the reading r of a message u bytes long
 --   headSize, fieldNoteSize, endSize
 --                        == how long each is
+--   entryOf bs           == the entry that the bytes of a field note spell
+--   entryAt n i          == the entry of the field note i, from 0, in the notes n
 --   notesRoom            == what the notes of any message fit in: a head, 190 fields and an end
 --
 -- Assumes nothing: these are definitions.
 use Prim.Native.Nat.{ℕ, _+_, _*_}
 use mathlib.Core.List.{List, [], _∷_, _++_}
-use Rattle.octets.specs.Numbers.{bigEndian}
-use Rattle.message_language.specs.Language.{Entry, Reading}
+use lib.ListN.{take, drop}
+use Rattle.octets.specs.Numbers.{bigEndian, bigEndianOf}
+use Rattle.message_language.specs.Language.{Entry, entry, Reading}
 
 abbrev pub headKind : ℕ
 headKind = 1
@@ -51,3 +54,9 @@ fieldNotes (e ∷ es) = fieldNote e ++ fieldNotes es
 
 unfoldable pub notesOf : Reading → ℕ → List ℕ
 notesOf r u = headNote (r .mti) (r .count) ++ (fieldNotes (r .entries) ++ endNote u)
+
+unfoldable pub entryOf : List ℕ → Entry
+entryOf bs = entry (bigEndianOf (take 1 (drop 1 bs))) (bigEndianOf (take 4 (drop 2 bs))) (bigEndianOf (take 2 (drop 6 bs)))
+
+unfoldable pub entryAt : List ℕ → ℕ → Entry
+entryAt n i = entryOf (take fieldNoteSize (drop (headSize + fieldNoteSize * i) n))
