@@ -9,14 +9,19 @@
 --                        == how long each is
 --   entryOf bs           == the entry that the bytes of a field note spell
 --   entryAt n i          == the entry of the field note i, from 0, in the notes n
+--   noteAt s             == the note of a field or of the end at the front of s: malformed where it is missing, cut or of another kind
 --   notesRoom            == what the notes of any message fit in: a head, 190 fields and an end
 --
 -- Assumes nothing: these are definitions.
 use Prim.Native.Nat.{ℕ, _+_, _*_}
+use mathlib.Core.Bool.{cond}
 use mathlib.Core.List.{List, [], _∷_, _++_}
-use lib.ListN.{take, drop}
+use lib.Dec.{eqb, ltb}
+use lib.ListN.{length, take, drop, getD}
 use Rattle.octets.specs.Numbers.{bigEndian, bigEndianOf}
 use Rattle.message_language.specs.Language.{Entry, entry, Reading}
+use Rattle.message_notes.specs.declared.Note.{Note}
+use Rattle.message_notes.specs.declared.Note.the-variants.{Field, End, Malformed}
 
 abbrev pub headKind : ℕ
 headKind = 1
@@ -60,3 +65,14 @@ entryOf bs = entry (bigEndianOf (take 1 (drop 1 bs))) (bigEndianOf (take 4 (drop
 
 unfoldable pub entryAt : List ℕ → ℕ → Entry
 entryAt n i = entryOf (take fieldNoteSize (drop (headSize + fieldNoteSize * i) n))
+
+unfoldable pub fieldNoteAt : List ℕ → Note
+fieldNoteAt s =
+    cond (ltb (length s) fieldNoteSize) Malformed
+    (Field (bigEndianOf (take 1 (drop 1 s))) (bigEndianOf (take 4 (drop 2 s))) (bigEndianOf (take 2 (drop 6 s))))
+
+unfoldable pub endNoteAt : List ℕ → Note
+endNoteAt s = cond (ltb (length s) endSize) Malformed (End (bigEndianOf (take 4 (drop 1 s))))
+
+unfoldable pub noteAt : List ℕ → Note
+noteAt s = cond (eqb (getD s 0 0) fieldKind) (fieldNoteAt s) (cond (eqb (getD s 0 0) endKind) (endNoteAt s) Malformed)

@@ -2,7 +2,18 @@
 ghost use mathlib.Core.Path.{_≡_};
 ghost use Rattle.octets.specs.Lists.{placed};
 ghost use Rattle.message_language.specs.Language.{entry};
-ghost use Rattle.message_notes.specs.Notes.{headNote, fieldNote, endNote};
+ghost use Rattle.message_notes.specs.Notes.{headNote, fieldNote, endNote, fieldNoteAt, endNoteAt, noteAt};
+
+// What stands where the note of a field or of the end should: its numbers, or that it is missing, cut or of another kind.
+pub enum Note {
+    Field {
+        number: usize,
+        offset: usize,
+        length: usize,
+    },
+    End(usize),
+    Malformed,
+}
 
 pub const HEAD_KIND: u8 = 1;
 
@@ -57,4 +68,46 @@ pub fn put_end(used: usize, out: &mut [u8])
     }
     out[0] = END_KIND;
     octets::put_big_endian(used, 4, &mut out[1..]);
+}
+
+// Reads the note of a field or of the end at the front of rest.
+pub fn read_note(rest: &[u8]) -> Note
+    ensures { λ r. ⌜ r ≡ noteAt (now (rest .entry)) ⌝ }
+{
+    if rest.len() == 0 {
+        return Note::Malformed;
+    }
+    let kind = rest[0];
+    if kind == FIELD_KIND {
+        return read_field_note(rest);
+    }
+    if kind == END_KIND {
+        return read_end_note(rest);
+    }
+    Note::Malformed
+}
+
+fn read_field_note(rest: &[u8]) -> Note
+    ensures { λ r. ⌜ r ≡ fieldNoteAt (now (rest .entry)) ⌝ }
+{
+    if rest.len() < FIELD_NOTE_SIZE {
+        return Note::Malformed;
+    }
+    let number = octets::big_endian_of(&rest[1..2]);
+    let offset = octets::big_endian_of(&rest[2..6]);
+    let length = octets::big_endian_of(&rest[6..8]);
+    Note::Field {
+        number,
+        offset,
+        length,
+    }
+}
+
+fn read_end_note(rest: &[u8]) -> Note
+    ensures { λ r. ⌜ r ≡ endNoteAt (now (rest .entry)) ⌝ }
+{
+    if rest.len() < END_SIZE {
+        return Note::Malformed;
+    }
+    Note::End(octets::big_endian_of(&rest[1..5]))
 }

@@ -1,0 +1,35 @@
+-- The number is read from its four bytes.
+use Prim.Native.Nat.{_-_}
+use Rattle.message_notes.proofs.Reading.{part-number, end-cut, end-whole}
+use borrow.Author.Needs.{needs}
+use Rattle.message_notes.proofs.read_end_note.Statement.{statement}
+use Rattle.message_notes.proofs.read_end_note.Tie as tie
+
+returns : tie.Need-returns
+returns c = search (end-cut, needs)
+
+sub-big-endian-of : tie.Need-sub-big-endian-of
+sub-big-endian-of c = search needs
+
+part-big-endian-of-start : tie.Need-part-big-endian-of-start
+part-big-endian-of-start c = search needs
+
+part-big-endian-of-end : tie.Need-part-big-endian-of-end
+part-big-endian-of-end c = search needs
+
+big-endian-of-requires : tie.Need-big-endian-of-requires
+big-endian-of-requires c κs = search needs
+
+returns-2 : tie.Need-returns-2
+returns-2 c = search (end-whole, part-number, needs)
+
+pub read-end-note-spec : {M : Type 1} → statement M
+read-end-note-spec =
+    tie.close
+    (tie.spec
+    returns
+    sub-big-endian-of
+    part-big-endian-of-start
+    part-big-endian-of-end
+    big-endian-of-requires
+    returns-2)
