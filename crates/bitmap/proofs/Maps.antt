@@ -6,14 +6,13 @@ use mathlib.Core.List.{List, [], _∷_, _++_}
 use native.Mathlib.Omega.{arith}
 use native.Mathlib.Nat.{zero-add, suc-add, add-suc}
 use lib.Dec.{eqb, leb}
-use lib.ListN.{length, take, drop, getD, set, replicate, length-take}
-use lib.Seq.{take-all}
+use lib.ListN.{length, getD, set}
 use borrow.Author.Tests.{le-leb, lt-leb, eq-eqb, ne-eqb, not-true, not-false}
-use Rattle.octets.specs.Lists.{both, between, lay, placed}
+use Rattle.octets.specs.Lists.{both, between}
 use Rattle.octets.proofs.Cases.{by-bool, both-left, both-right, both-fails, both-goes, tested-true, tested-false}
-use Rattle.octets.proofs.Lists.{is-between, below-low, above-high, between-low, between-high, placed-fits}
+use Rattle.octets.proofs.Lists.{is-between, below-low, above-high, between-low, between-high}
 use Rattle.bitmap.specs.Bits.{bit, bitOf, withBit}
-use Rattle.bitmap.specs.Bitmaps.{isField, hasField, countOf, noFields, withField, chain, mapByte, mapsFrom, mapsFor, loaded}
+use Rattle.bitmap.specs.Bitmaps.{isField, hasField, countOf, withField, chain, mapByte, mapsFrom, mapsFor}
 
 -- isField as facts
 pub low-no-field : (f : ℕ) → f < 2 → false ≡ isField f
@@ -124,16 +123,3 @@ module _ (m i x : ℕ) where
     pub byte-other : (i ≡ 0 → ⊥) → (i ≡ 8 → ⊥) → x ≡ mapByte m i x
     unfolding mapByte
     byte-other n k = rw (lt-leb (8 * m) i inside, ne-eqb i 0 n, ne-eqb i 8 k)
-
--- the ends of `load`
-pub load-short : (s b : List ℕ) (m : ℕ) → m ≡ countOf s → length s < 8 * m → b ≡ placed s noFields → b ≡ loaded s
-unfolding loaded
-load-short s b m e h w =
-    w ∙ placed-fits s noFields (length s) refl (omega (arith, count-most s))
-    ∙ ap (λ (l : List ℕ). lay l noFields) (sym (take-all (8 * countOf s) s (omega arith)))
-
-pub load-whole : (s b : List ℕ) (m : ℕ) → m ≡ countOf s → 8 * m ≤ length s → b ≡ placed (take (8 * m) s) noFields → b ≡ loaded s
-unfolding loaded
-load-whole s b m e h w =
-    w ∙ placed-fits (take (8 * m) s) noFields (length (take (8 * m) s)) refl (omega (arith, count-most s, length-take (8 * m) s))
-    ∙ rw e

@@ -2,7 +2,7 @@
 --
 --   isField f         == f is the number of a field: 2 to 192 without 65
 --   hasField s f      == field f is present, in the bitmaps or in the set s
---   countOf s         == how many bitmaps the first two ask for
+--   countOf s         == how many bitmaps there are, as bits 1 and 65 say
 --   fieldsFrom p k f  == those of the k numbers from f on that pass p, rising
 --   fieldsOf s m      == the fields present in the m bitmaps s, rising
 --   noFields          == the empty set
@@ -11,15 +11,14 @@
 --   mapByte m i x     == byte i of m bitmaps for fields whose bits there are x
 --   mapsFrom m s k i  == k bytes of m bitmaps for the set s, from byte i on
 --   mapsFor m s       == the 24 bytes of m bitmaps for the set s
---   loaded s          == the 24 bytes of the bitmaps that stand at the front of s
 --
 -- Assumes nothing: these are definitions.
 use Prim.Native.Nat.{ℕ, zero, suc, _+_, _-_, _*_, _/_, _%_}
 use mathlib.Core.Bool.{Bool, true, false, cond, not}
-use mathlib.Core.List.{List, [], _∷_, _++_}
-use lib.ListN.{length, take, getD, set, replicate}
+use mathlib.Core.List.{List, [], _∷_}
+use lib.ListN.{getD, set, replicate}
 use lib.Dec.{eqb, leb}
-use Rattle.octets.specs.Lists.{both, between, lay}
+use Rattle.octets.specs.Lists.{both, between}
 use Rattle.bitmap.specs.Bits.{bit, bitOf, withBit}
 
 -- 01: "Bits 1 and 65 are no fields."
@@ -63,6 +62,3 @@ mapsFrom m s (suc k) i = mapByte m i (getD s i 0) ∷ mapsFrom m s k (suc i)
 unfoldable pub mapsFor : ℕ → List ℕ → List ℕ
 unfolding mapsFrom
 mapsFor m s = mapsFrom m s 24 0
-
-unfoldable pub loaded : List ℕ → List ℕ
-loaded s = lay (take (8 * countOf s) s) noFields

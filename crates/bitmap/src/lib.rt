@@ -2,15 +2,15 @@
 ghost use mathlib.Core.Path.{_≡_};
 ghost use Prim.Native.Nat.{_<_, _≤_, _-_, _^_, min};
 ghost use Rattle.bitmap.specs.Bits.{bitOf, withBit};
-ghost use Rattle.bitmap.specs.Bitmaps.{isField, hasField, countOf, noFields, withField, chain, mapByte, mapsFor, loaded};
+ghost use Rattle.bitmap.specs.Bitmaps.{isField, hasField, countOf, noFields, withField, chain, mapByte, mapsFor};
 
 // A set of fields, as 24 bytes of bits placed as in the bitmaps.
 pub struct FieldSet {
     bits: [u8; 24],
 }
 
-// One to three bitmaps: their count, and their bytes at the front of 24; the others are zero.
-// They are made from a count and a set of fields, or read: no bit can be set or cleared by itself.
+// Up to three bitmaps: their count, and their bytes at the front of 24; the others are zero.
+// They are made from a count and a set of fields: no bit can be set or cleared by itself.
 pub struct Bitmaps {
     count: usize,
     bytes: [u8; 24],
@@ -53,7 +53,8 @@ impl FieldSet {
 }
 
 impl Bitmaps {
-    // The bitmaps for a set of fields: bits 1 and 65 follow from the count. A count over 3 is taken for 3.
+    // The bitmaps for a set of fields: bits 1 and 65 follow from the count. A count over 3 is taken for 3, and a count of 0
+    // makes no bitmap. A field beyond the last bitmap has no bit there: writers refuse it before they come here.
     pub fn of(count: usize, fields: FieldSet) -> Bitmaps
         ensures count { λ r. ⌜ r .count ≡ min count 3 ⌝ }
         ensures bytes { λ r. ⌜ r .bytes ≡ mapsFor (min count 3) (fields .bits) ⌝ }
@@ -69,30 +70,6 @@ impl Bitmaps {
             count,
             bytes: map_bytes(count, bits),
         }
-    }
-
-    // The bitmaps at the front of s: as many as they ask for, zero where s ends before.
-    pub fn load(s: &[u8]) -> Bitmaps
-        ensures count { λ r. ⌜ r .count ≡ countOf (now (s .entry)) ⌝ }
-        ensures bytes { λ r. ⌜ r .bytes ≡ loaded (now (s .entry)) ⌝ }
-    {
-        let count = count_of(s);
-        let n = 8 * count;
-        let mut bytes = [0u8; 24];
-        if s.len() < n {
-            octets::put(s, &mut bytes);
-            return Bitmaps { count, bytes };
-        }
-        octets::put(&s[..n], &mut bytes);
-        Bitmaps { count, bytes }
-    }
-
-    // Whether field is present.
-    pub fn has(self, field: usize) -> bool
-        ensures { λ r. ⌜ r ≡ hasField (self .bytes) field ⌝ }
-    {
-        let bytes = self.bytes;
-        has_field(&bytes, field)
     }
 
     // How many bitmaps there are.

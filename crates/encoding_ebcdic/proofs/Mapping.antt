@@ -4,8 +4,8 @@ use Prim.Native.Nat.{ℕ, _+_, _≤_, _<_}
 use mathlib.Core.Path.{_≡_, _∙_}
 use mathlib.Core.List.{List, map}
 use lib.ListN.{length, getD, set, length-map}
-use Rattle.octets.specs.Lists.{lay, laid}
-use Rattle.octets.proofs.Lists.{laid-step, laid-all, getD-map}
+use Rattle.octets.specs.Lists.{lay}
+use Rattle.octets.proofs.Lists.{laid, laid-step, laid-all, getD-map}
 
 module _ (f : ℕ → ℕ) (s d e : List ℕ) (i : ℕ) (so-far : e ≡ laid (map f s) d i) where
   pub map-step : (v : ℕ) → i < length s → i < length d → v ≡ f (getD s i 0) → set e i v ≡ laid (map f s) d (i + 1)

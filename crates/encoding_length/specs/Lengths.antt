@@ -8,18 +8,19 @@
 --   asciiFault s         == 01's number of the test that s fails as ASCII text, or 0
 --   alphabetFault e w s  == 01's number of the test that s fails as text of the encoding e, or 0
 --   decodeFault e w s    == 01's number of the first test that s fails as an indicator of w digits, or 0
+--   toldLength r         == what decoding's answer tells; its value is the length
 --   measured e w s       == what decoding s answers: the number that its digits spell, or a refusal
 --
 -- Assumes nothing: these are definitions.
 use Prim.Native.Nat.{ℕ, _^_}
 use mathlib.Core.Bool.{Bool, cond}
-use mathlib.Core.List.{List, map}
+use mathlib.Core.List.{List, [], _∷_, map}
 use lib.ListN.{length}
 use lib.Dec.{eqb, ltb}
 use Rattle.octets.specs.Lists.{both, either, all}
 use Rattle.octets.specs.Numbers.{isDigit, isAscii, decimalOf}
 use Rattle.refusal.specs.Numbers.{lengthNeedsDigits, byteCountWrong, noAsciiMeaning, lengthNotDigits}
-use Rattle.refusal.specs.Refusals.{plain}
+use Rattle.refusal.specs.Refusals.{plain, Told, tell}
 use Rattle.encoding_bcd.specs.Bcd.{bytesOf, packed, unpacked, decodeFault as bcdFault}
 use Rattle.encoding_ebcdic.specs.Ebcdic.{asciiOf, ebcdicOf, decodeFault as ebcdicFault}
 use Rattle.encoding_length.specs.declared.Encoding.{Encoding}
@@ -69,7 +70,11 @@ decodeFault e w s =
     byteCountWrong)
     lengthNeedsDigits
 
--- 01: "a length or count in a refusal is 0": a refusal holds none
+-- 01: "a length or count in a refusal is 0"
+abbrev pub toldLength : Measured → Told
+toldLength (Length n) = tell (plain 0) (n ∷ [])
+toldLength (Refused r) = tell r (0 ∷ [])
+
 unfoldable pub measured : Encoding → ℕ → List ℕ → Measured
 measured e w s =
     cond (eqb (decodeFault e w s) 0) (Length (decimalOf (textOf e w s))) (Refused (plain (decodeFault e w s)))

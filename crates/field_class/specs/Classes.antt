@@ -18,22 +18,22 @@ use Rattle.field_table.specs.declared.Class.{Class}
 use Rattle.field_table.specs.declared.Class.the-variants.{N, A, An, Ans, Ns, Z, Xn, B}
 
 unfoldable pub isLetter : ℕ → Bool
-isLetter x = either (between 65 90 x) (between 97 122 x)
+isLetter x = either (between 0x41 0x5A x) (between 0x61 0x7A x)
 
 abbrev pub isVisible : ℕ → Bool
-isVisible = between 32 126
+isVisible = between 0x20 0x7E
 
 abbrev pub isSign : ℕ → Bool
-isSign x = either (eqb x 67) (eqb x 68)
+isSign x = either (eqb x 0x43) (eqb x 0x44)
 
 -- 01: "n digits; a letters and space; an letters, digits, space; ans 0x20-0x7E; ns 0x20-0x7E without letters; z 0x30-0x3F; …; b anything"
 abbrev pub allows : Class → ℕ → Bool
 allows N x = isDigit x
-allows A x = either (eqb x 32) (isLetter x)
-allows An x = either (isDigit x) (either (eqb x 32) (isLetter x))
+allows A x = either (eqb x 0x20) (isLetter x)
+allows An x = either (isDigit x) (either (eqb x 0x20) (isLetter x))
 allows Ans x = isVisible x
 allows Ns x = both (not (isLetter x)) (isVisible x)
-allows Z x = between 48 63 x
+allows Z x = between 0x30 0x3F x
 allows Xn x = isDigit x
 allows B x = true
 

@@ -1,7 +1,7 @@
 -- What reading one field finds at the front of the rest of a message.
 --
 --   lengthOf w m ds     == how long the content is: m where the field is fixed (w is 0), else what the length digits ds spell
---   readSized w n m c s == the answer once the content is known to be n bytes long
+--   readSized w n m c s == the answer once the content's length n is known
 --   readItem w m c s    == the answer for a field with w length digits, length or greatest length m, and class c
 --   readField t f s     == the answer for field f of the table t
 --

@@ -15,7 +15,8 @@ pub enum FieldRead {
     Refused(u8),
 }
 
-// Reads field number at the front of rest. The caller knows where rest stands in the message.
+// Reads field number at the front of rest; the caller knows where rest stands in the message, and adds field and position to a
+// refusal. A number that no field has is read as the table has it, as an empty content: which numbers are fields, the bitmaps say.
 pub fn read_field(rest: &[u8], number: usize) -> FieldRead
     ensures { λ r. ⌜ r ≡ readField house number (now (rest .entry)) ⌝ }
 {

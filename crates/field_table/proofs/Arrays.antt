@@ -7,8 +7,8 @@ use lib.Dec.{T, eqb, eqb→eq}
 use lib.ListN.{getD}
 use Rattle.octets.proofs.Tables.{every, entry}
 use Rattle.field_table.specs.House.{house, houseRows}
-use Rattle.field_table.specs.Codes.{codeOf, classByCode}
-use Rattle.field_table.proofs.Codes.{same-class}
+use Rattle.field_table.specs.Codes.{classByCode}
+use Rattle.field_table.proofs.Codes.{codeOf, same-class}
 
 unfoldable pub widths : List ℕ
 widths =

@@ -1,7 +1,6 @@
 -- Classes as numbers, in the code's constant table.
 --
---   codeOf c        == the number of class c: n 1, a 2, an 3, ans 4, ns 5, z 6, x+n 7, b 8
---   classByCode k   == the class whose number is k; b for any other number
+--   classByCode k   == the class whose number is k: n 1, a 2, an 3, ans 4, ns 5, z 6, x+n 7; b for any other number
 --
 -- Assumes nothing: these are definitions.
 use Prim.Native.Nat.{ℕ}
@@ -9,16 +8,6 @@ use mathlib.Core.Bool.{cond}
 use lib.Dec.{eqb}
 use Rattle.field_table.specs.declared.Class.{Class}
 use Rattle.field_table.specs.declared.Class.the-variants.{N, A, An, Ans, Ns, Z, Xn, B}
-
-abbrev pub codeOf : Class → ℕ
-codeOf N = 1
-codeOf A = 2
-codeOf An = 3
-codeOf Ans = 4
-codeOf Ns = 5
-codeOf Z = 6
-codeOf Xn = 7
-codeOf B = 8
 
 abbrev pub classByCode : ℕ → Class
 classByCode k =

@@ -2,7 +2,8 @@
 --
 --   Table            == width f: how many length digits field f has (0 fixed, 2 LL, 3 LLL);
 --                       most f: its length where it is fixed, else its greatest; class f: its class
---   Row              == the fields from first to last, which are alike
+--   Row              == the fields from first to last, which are alike in width, most and class
+--   row w a b m c    == the fields a to b have w length digits, length or greatest length m, and class c
 --   fixed a b m c    == the fields a to b are m bytes long, of class c
 --   LL a b m c       == they have two length digits and are up to m bytes long
 --   LLL a b m c      == the same with three

@@ -78,6 +78,7 @@ fn class_by_code(code: u8) -> Class
     }
 }
 
+// By number, from 0 to 192: shown to be the house table at each.
 const WIDTH: [usize; 193] = [
     0,
     0,

@@ -3,11 +3,13 @@
 --
 --   Item t f ds c         == ds are the length digits and c the content of field f, as the table t has it
 --   Entry                 == what a reading says of one field: its number, and where in the message its content is and how long
+--   entry f o n           == number f, content at o, n bytes long
 --   Fields t at fs bs es  == the bytes bs are the fields fs, one after the other, the first of them at the place `at`; es are their entries
 --   Reading               == what a message says: its MTI, its count of bitmaps and an entry for each field
---   Message t m bs r      == the bytes bs are a message with the reading r and at most m bitmaps
+--   Message t m bs r      == the bytes bs are a message with the reading r and at most m bitmaps (01: three)
 --   Begins t m s u r      == the input s begins with such a message, u bytes long
 --
+-- Lists stand for the bytes of a slice; that each is below 256 is not asked again here, since no slice holds another number.
 -- Assumes nothing: these are definitions.
 use Prim.Native.Nat.{ℕ, _+_, _*_, _≤_}
 use mathlib.Core.Path.{_≡_}

@@ -5,6 +5,8 @@
 --   endNote u            == the end: kind 0x04, the length u of the message (4)
 --   fieldNotes es        == a field note for each entry, in order
 --   notesOf r u          == "One head, field notes in rising number, one end note" of the reading r of a message u bytes long
+--   headKind, fieldKind, endKind
+--                        == the first byte of each
 --   headSize, fieldNoteSize, endSize
 --                        == how long each is
 --   entryOf bs           == the entry that the bytes of a field note spell

@@ -30,7 +30,7 @@ pub const END_SIZE: usize = 5;
 // The notes of any message fit in this: a head, 190 fields and an end.
 pub const NOTES_ROOM: usize = HEAD_SIZE + 190 * FIELD_NOTE_SIZE + END_SIZE;
 
-// Writes the head note to the front of out. Where it does not fit, out is left as it is.
+// Writes the head note to the front of out; of a count, its last byte. Where it does not fit, out is left as it is.
 pub fn put_head(mti: &[u8], count: usize, out: &mut [u8])
     ensures { λ _. ⌜ now (out .exit) ≡ placed (headNote (now (mti .entry)) count) (now (out .entry)) ⌝ }
 {
@@ -46,7 +46,8 @@ pub fn put_head(mti: &[u8], count: usize, out: &mut [u8])
     octets::put_big_endian(count, 1, &mut out[at..]);
 }
 
-// Writes the note of a field to the front of out. Where it does not fit, out is left as it is.
+// Writes the note of a field to the front of out; of each number, as many of its last bytes as the note has for it. Every number
+// of a message fits (specs/Demand3 of message_reader). Where the note does not fit, out is left as it is.
 pub fn put_field(number: usize, offset: usize, length: usize, out: &mut [u8])
     ensures { λ _. ⌜ now (out .exit) ≡ placed (fieldNote (entry number offset length)) (now (out .entry)) ⌝ }
 {
@@ -59,7 +60,7 @@ pub fn put_field(number: usize, offset: usize, length: usize, out: &mut [u8])
     octets::put_big_endian(length, 2, &mut out[6..]);
 }
 
-// Writes the end note to the front of out. Where it does not fit, out is left as it is.
+// Writes the end note to the front of out; of a length, its last four bytes. Where it does not fit, out is left as it is.
 pub fn put_end(used: usize, out: &mut [u8])
     ensures { λ _. ⌜ now (out .exit) ≡ placed (endNote used) (now (out .entry)) ⌝ }
 {

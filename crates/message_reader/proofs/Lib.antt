@@ -6,3 +6,4 @@ pub mod Language
 pub mod Noting
 pub mod Small
 pub mod Turns
+pub mod Worked

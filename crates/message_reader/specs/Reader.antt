@@ -1,5 +1,6 @@
 -- What the reader answers, and what it leaves in the notes, on any input. 01: "Reader order: 1, 2, 3, 4, then fields rising".
 --
+--   toldRead r            == what the reader's answer tells; its values are the bytes used and the count of bitmaps
 --   mapsRead s            == how many bitmaps an input with an MTI has, or the refusal of an incomplete one
 --   headRead s            == the same, once the input is long enough and its MTI is digits
 --   readFields t at fs s  == reading the fields fs one after the other, the first at the place `at`, where s begins: the place after the last
@@ -20,7 +21,7 @@ use lib.Dec.{ltb}
 use Rattle.octets.specs.Lists.{lead, lay}
 use Rattle.octets.specs.Numbers.{isDigit}
 use Rattle.refusal.specs.Numbers.{notesTooShort, messageTooShort, mtiNotDigits, bitmapIncomplete}
-use Rattle.refusal.specs.Refusals.{refusal, plain}
+use Rattle.refusal.specs.Refusals.{refusal, plain, Told, tell}
 use Rattle.field_table.specs.Table.{Table}
 use Rattle.field_read.specs.Items.{readField}
 use Rattle.field_read.specs.declared.FieldRead.the-variants.{Content, Refused as FieldRefused}
@@ -34,6 +35,11 @@ use Rattle.message_reader.specs.declared.FieldsRead.{FieldsRead}
 use Rattle.message_reader.specs.declared.FieldsRead.the-variants.{Used, Refused as FieldsRefused}
 use Rattle.message_reader.specs.declared.ReadAnswer.{ReadAnswer}
 use Rattle.message_reader.specs.declared.ReadAnswer.the-variants.{Accepted, Refused}
+
+-- 01: "For enum answers, a definition gives this paper's number and values for each case"; "a length or count in a refusal is 0"
+abbrev pub toldRead : ReadAnswer → Told
+toldRead (Accepted u m) = tell (plain 0) (u ∷ m ∷ [])
+toldRead (Refused r) = tell r (0 ∷ 0 ∷ [])
 
 -- 01: "4 the missing bitmap's start"
 unfoldable pub mapsRead : List ℕ → HeadRead

@@ -10,7 +10,7 @@ use lib.ListN.{length, take, drop, getD, set, length-append, length-take, length
 use lib.Seq.{drop-cons, take-length, drop-length}
 use lib.Dec.{eqb, leb, eqb·suc-suc}
 use borrow.Author.Tests.{le-leb, lt-leb, leb-true, eq-eqb, ne-eqb}
-use Rattle.octets.specs.Lists.{both, between, all, lead, lay, laid, placed}
+use Rattle.octets.specs.Lists.{both, between, all, lead, lay, placed}
 use Rattle.octets.proofs.Cases.{false-true, by-bool, both-left, both-right}
 
 -- between as facts
@@ -38,7 +38,10 @@ pub between-high : (lo hi x : ℕ) → between lo hi x ≡ true → x ≤ hi
 unfolding between
 between-high lo hi x t = leb-true x hi (both-right (leb lo x) (leb x hi) t)
 
--- A writing loop that has come to i: d is the output where it began, e as it is now.
+-- A writing loop that has come to i: r is to be laid over d, and its first i bytes are; e is the output as it is now.
+unfoldable pub laid : List ℕ → List ℕ → ℕ → List ℕ
+laid r d i = take i r ++ drop i d
+
 store : (r d : List ℕ) (i : ℕ) → i < length r → i < length d → set (take i r ++ drop i d) i (getD r i 0) ≡ take (suc i) r ++ drop (suc i) d
 store [] d i h k = absurd (not-suc-le-zero h)
 store (x ∷ xs) [] i h k = absurd (not-suc-le-zero k)

@@ -6,14 +6,13 @@
 --   all p s          == the test p passes at each element of s
 --   lead p s         == how many elements at the front of s pass p, up to the first that does not
 --   lay r out        == r over the front of out, the rest of out as it was
---   laid r out i     == the same, come as far as the first i bytes of r
 --   placed r out     == lay r out where r fits in out, else out
 --
 -- Assumes nothing: these are definitions.
 use Prim.Native.Nat.{ℕ, suc}
 use mathlib.Core.Bool.{Bool, true, false, cond}
 use mathlib.Core.List.{List, [], _∷_, _++_}
-use lib.ListN.{length, take, drop}
+use lib.ListN.{length, drop}
 use lib.Dec.{leb}
 
 abbrev pub both : Bool → Bool → Bool
@@ -37,9 +36,6 @@ lead p (x ∷ xs) = cond (p x) (suc (lead p xs)) 0
 
 unfoldable pub lay : List ℕ → List ℕ → List ℕ
 lay r out = r ++ drop (length r) out
-
-unfoldable pub laid : List ℕ → List ℕ → ℕ → List ℕ
-laid r out i = take i r ++ drop i out
 
 unfoldable pub placed : List ℕ → List ℕ → List ℕ
 placed r out = cond (leb (length r) (length out)) (lay r out) out

@@ -24,16 +24,16 @@ number b z a [] = a
 number b z a (x ∷ xs) = number b z (a * b + (x - z)) xs
 
 abbrev pub isDigit : ℕ → Bool
-isDigit = between 48 57
+isDigit = between 0x30 0x39
 
 abbrev pub isAscii : ℕ → Bool
-isAscii = between 0 127
+isAscii = between 0 0x7F
 
 abbrev pub decimal : ℕ → ℕ → List ℕ
-decimal = digits 10 48
+decimal = digits 10 0x30
 
 abbrev pub decimalOf : List ℕ → ℕ
-decimalOf = number 10 48 0
+decimalOf = number 10 0x30 0
 
 abbrev pub bigEndian : ℕ → ℕ → List ℕ
 bigEndian = digits 256 0

@@ -128,7 +128,7 @@ fn put_digits(n: usize, base: usize, first: u8, w: usize, out: &mut [u8])
     }
 }
 
-// The number that ASCII digits spell, up to sixteen of them; 0 where there are more.
+// The number that up to sixteen bytes spell as ASCII digits; 0 where there are more. A byte x counts as x - 0x30, or 0 below that.
 pub fn decimal_of(s: &[u8]) -> usize
     ensures { λ r. ⌜ r ≡ cond (leb (length (now (s .entry))) 16) (decimalOf (now (s .entry))) 0 ⌝ }
 {

@@ -3,13 +3,13 @@
 use Prim.Native.Nat.{ℕ, _≤_, _<_}
 use mathlib.Core.Path.{_≡_, refl, sym, ap, _∙_}
 use mathlib.Core.Bool.{Bool, true, false}
-use mathlib.Core.List.{List}
+use mathlib.Core.List.{List, [], _∷_}
 use lib.ListN.{length}
 use borrow.Author.Tests.{le-leb, lt-leb, eq-eqb, ne-eqb}
 use Rattle.octets.specs.Lists.{lay, placed}
 use Rattle.octets.proofs.Lists.{placed-short, placed-fits}
 use Rattle.refusal.specs.Numbers.{outputTooShort}
-use Rattle.refusal.specs.Refusals.{plain, converted, convertedInto}
+use Rattle.refusal.specs.Refusals.{plain, tell, told, converted, convertedInto}
 use Rattle.refusal.specs.declared.Converted.{Converted}
 use Rattle.refusal.specs.declared.Converted.the-variants.{Written, Refused}
 
@@ -52,3 +52,13 @@ converted-into-fits n r d z h = rw (eq-eqb n 0 z) (placed-fits r d (length r) re
 pub converted-fails : (n : ℕ) (r d : List ℕ) → (n ≡ 0 → ⊥) → converted n r d ≡ Refused (plain n)
 unfolding converted
 converted-fails n r d h = rw (ne-eqb n 0 h)
+
+-- What a conversion tells: 0, 0, 0 and the length; the source's number and 0; or 14 and 0.
+pub told-written : (r d : List ℕ) → length r ≤ length d → told (converted 0 r d) ≡ tell (plain 0) (length r ∷ [])
+told-written r d h = ap told (converted-fits 0 r d refl h)
+
+pub told-fault : (n : ℕ) (r d : List ℕ) → (n ≡ 0 → ⊥) → told (converted n r d) ≡ tell (plain n) (0 ∷ [])
+told-fault n r d h = ap told (converted-fails n r d h)
+
+pub told-short : (r d : List ℕ) → length d < length r → told (converted 0 r d) ≡ tell (plain outputTooShort) (0 ∷ [])
+told-short r d h = ap told (sym (short-answer 0 0 r d refl refl (length r) refl h))

@@ -1,7 +1,10 @@
 -- What a refusal holds, and what a conversion answers and leaves in its output.
 --
 --   refusal n f p          == number n, field f, position p
+--   tell r vs              == the refusal r, and the values vs
 --   plain n                == number n, with no field and position 0
+--   Told                   == what an answer tells: 01's number, field and position (all 0 where nothing is refused), and its values
+--   told c                 == what a conversion's answer tells; its value is the length written
 --   converted n r out      == the answer of a conversion to the bytes r: `plain n` where its source fails with the number n
 --                             (0: it does not fail), 14 where r does not fit in out, else the length of r
 --   convertedInto n r out  == each byte of its output afterwards
@@ -9,7 +12,7 @@
 -- Assumes nothing: these are definitions.
 use Prim.Native.Nat.{ℕ}
 use mathlib.Core.Bool.{Bool, cond}
-use mathlib.Core.List.{List}
+use mathlib.Core.List.{List, [], _∷_}
 use lib.ListN.{length}
 use lib.Dec.{leb, eqb}
 use Rattle.octets.specs.Lists.{placed}
@@ -23,6 +26,18 @@ refusal n f p = record { number = n; field = f; position = p }
 
 abbrev pub plain : ℕ → Refusal
 plain n = refusal n 0 0
+
+-- 01: "For enum answers, a definition gives this paper's number and values for each case"; "a length or count in a refusal is 0"
+pub record Told : Type 0 where
+  pub refused : Refusal
+  pub values : List ℕ
+
+abbrev pub tell : Refusal → List ℕ → Told
+tell r vs = record { refused = r; values = vs }
+
+abbrev pub told : Converted → Told
+told (Written n) = tell (plain 0) (n ∷ [])
+told (Refused r) = tell r (0 ∷ [])
 
 -- 01: "Conversions test their source first …, then 14."
 unfoldable pub converted : ℕ → List ℕ → List ℕ → Converted

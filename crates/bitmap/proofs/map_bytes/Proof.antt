@@ -2,8 +2,7 @@
 use mathlib.Core.Path.{_≡_, _∙_}
 use Prim.Native.Nat.{_≤_, _-_}
 use lib.ListN.{length}
-use Rattle.octets.specs.Lists.{laid}
-use Rattle.octets.proofs.Lists.{laid-none, laid-step, laid-all, lay-whole}
+use Rattle.octets.proofs.Lists.{laid, laid-none, laid-step, laid-all, lay-whole}
 use Rattle.bitmap.specs.Bitmaps.{mapsFor, noFields}
 use Rattle.bitmap.proofs.Maps.{maps-length, maps-at}
 use borrow.Author.Needs.{needs}

@@ -3,8 +3,7 @@ use mathlib.Core.Path.{_≡_}
 use mathlib.Core.List.{map}
 use Prim.Native.Nat.{_≤_, _-_}
 use lib.ListN.{length}
-use Rattle.octets.specs.Lists.{laid}
-use Rattle.octets.proofs.Lists.{laid-none}
+use Rattle.octets.proofs.Lists.{laid, laid-none}
 use Rattle.encoding_ebcdic.specs.Ebcdic.{ebcdicOf}
 use Rattle.encoding_ebcdic.proofs.Mapping.{map-step, map-all}
 use borrow.Author.Needs.{needs}

@@ -2,8 +2,7 @@
 use mathlib.Core.Path.{_≡_, sym}
 use Prim.Native.Nat.{_≤_, _-_}
 use lib.ListN.{length, replicate, length-replicate, getD-replicate}
-use Rattle.octets.specs.Lists.{laid}
-use Rattle.octets.proofs.Lists.{laid-none, laid-step, laid-all}
+use Rattle.octets.proofs.Lists.{laid, laid-none, laid-step, laid-all}
 use borrow.Author.Needs.{needs}
 use Rattle.octets.proofs.fill_fitting.Statement.{statement}
 use Rattle.octets.proofs.fill_fitting.Tie as tie

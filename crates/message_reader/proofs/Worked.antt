@@ -1,0 +1,17 @@
+-- 01's worked messages 1 to 9 come out of the definitions, computed. Assumes nothing.
+use mathlib.Core.Path.{_≡_, refl}
+use mathlib.Core.List.{map}
+use Rattle.octets.specs.Lists.{between}
+use Rattle.octets.specs.Numbers.{digits, number}
+use Rattle.field_table.specs.House.{house, houseRows}
+use Rattle.field_table.specs.Table.{tableOf}
+use Rattle.field_read.specs.Items.{lengthOf, readSized, readItem, readField}
+use Rattle.bitmap.specs.Bits.{bitOf}
+use Rattle.bitmap.specs.Bitmaps.{isField, hasField, countOf, fieldsFrom, fieldsOf}
+use Rattle.message_notes.specs.Notes.{headNote, fieldNote, endNote, fieldNotes, notesOf}
+use Rattle.message_reader.specs.Reader.{mapsRead, headRead, readFields, entriesOf, mapsOf, readBody, readMessage, readingWith}
+use Rattle.message_reader.specs.Worked.{Case, outcome, cases, noted}
+
+pub worked : map (λ (c : Case). outcome (c .input)) cases ≡ cases
+unfolding outcome cases noted between digits number house houseRows tableOf lengthOf readSized readItem readField bitOf isField hasField countOf fieldsFrom fieldsOf headNote fieldNote endNote fieldNotes notesOf mapsRead headRead readFields entriesOf mapsOf readBody readMessage readingWith
+worked = refl
