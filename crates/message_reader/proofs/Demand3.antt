@@ -20,12 +20,13 @@ use Rattle.field_table.proofs.Rows.{Small, house-small}
 use Rattle.message_language.specs.Language.{Entry, Reading, Message, Begins}
 use Rattle.message_notes.specs.Notes.{headNote, fieldNotes, endNote, notesOf, notesRoom, entryAt}
 use Rattle.message_notes.proofs.Spelling.{entry-at}
+use Rattle.message_notes.proofs.Apart.{notes-apart}
 use Rattle.message_reader.specs.declared.ReadAnswer.{ReadAnswer}
 use Rattle.message_reader.specs.declared.ReadAnswer.the-variants.{Accepted, Refused}
 use Rattle.message_reader.specs.Reader.{readMessage, readAnswer, readingWith, notesAfter}
 use Rattle.message_reader.specs.Demand3.{Reads}
 use Rattle.message_reader.proofs.Language.{accepts, accepted, reading-is, one-length, one-message, one-reading}
-use Rattle.message_reader.proofs.Small.{entries-fit, room-enough}
+use Rattle.message_reader.proofs.Small.{entries-fit, used-small, room-enough}
 
 never : (o : ReadAnswer) (r : Refusal) (u m : ℕ) → o ≡ Refused r → o ≡ Accepted u m → ⊥
 never o r u m p q = let z : _≡_ {A = ℕ} 0 1 = cc in omega arith
@@ -97,6 +98,15 @@ reads t small =
           ap (λ (n : List ℕ). entryAt n i) (notes-are t s b u r h x ∙ laid-entry r u b)
           ∙ entry-at (r .mti) (r .count) (r .entries) (endNote u ++ drop (length (notesOf r u)) b) i e (x .is .four)
           (entries-fit t small 3 (x .message) r (x .is) (x .is .few)) at;
+      notes-tell =
+          λ s q u v r p x y e.
+          notes-apart r p u v (x .is .four) (y .is .four) (omega (arith, x .is .few)) (omega (arith, y .is .few))
+          (entries-fit t small 3 (x .message) r (x .is) (x .is .few))
+          (entries-fit t small 3 (y .message) p (y .is) (y .is .few))
+          (omega (arith, x .long, used-small t small 3 (x .message) r (x .is) (x .is .few)))
+          (omega (arith, y .long, used-small t small 3 (y .message) p (y .is) (y .is .few)))
+          e;
+      room-is = refl;
       notes-fit = λ s u r x. room-enough t small 3 (x .message) r (x .is) (x .is .few) u;
       only-used = only-used t;
     }

@@ -47,6 +47,21 @@ module _ (t : Table) (small : Small t) where
         fit g (both-right (isField f) (all isField fs) a) (omega arith),
       )
 
+  reach : {at : ℕ} {fs bs : List ℕ} {es : List Entry} → Fields t at fs bs es → length bs ≤ 1002 * length fs
+  reach none = omega arith
+  reach (more {f = f} ds c rest i b g) =
+      omega (
+        arith,
+        ap length b,
+        length-append ds (c ++ rest),
+        length-append c rest,
+        small .width-small f,
+        small .most-small f,
+        i .width,
+        i .allowed,
+        reach g,
+      )
+
   module _ (m : ℕ) (bs : List ℕ) (r : Reading) (M : Message t m bs r) (three : r .count ≤ 3) where
     few : length (r .entries) ≤ 190
     few = omega (arith, entries-long t (M .fields), fields-few (M .maps) (r .count) three)
@@ -56,6 +71,21 @@ module _ (t : Table) (small : Small t) where
     entries-fit =
         fit (M .fields) (fields-are (M .maps) (64 * r .count) 1)
         (omega (arith, fields-few (M .maps) (r .count) three, three))
+
+    pub used-small : length bs < 4294967296
+    unfolding fieldsOf
+    used-small =
+        omega (
+          arith,
+          ap length (M .spelt),
+          length-append (r .mti) (M .maps ++ M .body),
+          length-append (M .maps) (M .body),
+          M .four,
+          M .whole,
+          reach (M .fields),
+          fields-few (M .maps) (r .count) three,
+          three,
+        )
 
     pub room-enough : (u : ℕ) → length (notesOf r u) ≤ notesRoom
     room-enough u = omega (arith, notes-long r u (M .four), few)

@@ -38,7 +38,15 @@ pub record Reads (t : Table) : Type 0 where
       notesRoom ≤ length b →
       Begins t 3 s u r →
       (i : ℕ) (e : Entry) → getElem? (r .entries) i ≡ some e → entryAt (notesAfter t s b) i ≡ e
+  -- They tell readings apart: two messages with the same notes have the same reading and the same length.
+  pub notes-tell :
+      (s q : List ℕ) (u v : ℕ) (r p : Reading) →
+      Begins t 3 s u r →
+      Begins t 3 q v p →
+      notesOf r u ≡ notesOf p v →
+      (r ≡ p) × (u ≡ v)
   -- They never need more than 1,531 bytes.
+  pub room-is : notesRoom ≡ 1531
   pub notes-fit : (s : List ℕ) (u : ℕ) (r : Reading) → Begins t 3 s u r → length (notesOf r u) ≤ notesRoom
   -- Reading looks at nothing past the bytes used: an input that agrees on them has the same answer and notes.
   pub only-used :
