@@ -1,3 +1,4 @@
 pub mod Bits
+pub mod ByBits
 pub mod Fields
 pub mod Maps

@@ -12,7 +12,7 @@ use Rattle.octets.specs.Lists.{both, between}
 use Rattle.octets.proofs.Cases.{by-bool, both-left, both-right, both-fails, both-goes, tested-true, tested-false}
 use Rattle.octets.proofs.Lists.{is-between, below-low, above-high, between-low, between-high}
 use Rattle.bitmap.specs.Bits.{bit, bitOf, withBit}
-use Rattle.bitmap.specs.Bitmaps.{isField, hasField, countOf, withField, chain, mapByte, mapsFrom, mapsFor}
+use Rattle.bitmap.specs.Bitmaps.{isField, hasField, countOf, withField, chain, mapByte, mapsFrom}
 
 -- isField as facts
 pub low-no-field : (f : ℕ) → f < 2 → false ≡ isField f
@@ -97,12 +97,10 @@ maps-from-at m s (suc k) i (suc j) h =
     let e : suc i + j ≡ i + suc j = omega arith in
     maps-from-at m s k (suc i) j (omega arith) ∙ ap (λ (n : ℕ). mapByte m n (getD s n 0)) e
 
-pub maps-length : (m : ℕ) (s : List ℕ) → length (mapsFor m s) ≡ 24
-unfolding mapsFor
+pub maps-length : (m : ℕ) (s : List ℕ) → length (mapsFrom m s 24 0) ≡ 24
 maps-length m s = maps-from-length m s 24 0
 
-pub maps-at : (m : ℕ) (s : List ℕ) (i v : ℕ) → i < 24 → v ≡ mapByte m i (getD s i 0) → v ≡ getD (mapsFor m s) i 0
-unfolding mapsFor
+pub maps-at : (m : ℕ) (s : List ℕ) (i v : ℕ) → i < 24 → v ≡ mapByte m i (getD s i 0) → v ≡ getD (mapsFrom m s 24 0) i 0
 maps-at m s i v h e = e ∙ sym (maps-from-at m s 24 0 i h ∙ ap (λ (n : ℕ). mapByte m n (getD s n 0)) (zero-add i))
 
 -- the ends of `map_byte`

@@ -7,19 +7,20 @@
 --   fieldsOf s m      == the fields present in the m bitmaps s, rising
 --   noFields          == the empty set
 --   withField s f     == the set s with the field f; s where f is no field
+--   mapBit m s f      == bit f of m bitmaps for the set s: bits 1 and 65 follow from the count
+--   mapsFor m s       == the 24 bytes of m bitmaps for the set s: eight for each, then zeros
 --   chain on x        == the byte x with its first bit as `on` says
---   mapByte m i x     == byte i of m bitmaps for fields whose bits there are x
---   mapsFrom m s k i  == k bytes of m bitmaps for the set s, from byte i on
---   mapsFor m s       == the 24 bytes of m bitmaps for the set s
+--   mapByte m i x     == byte i of them, made from the byte x of the set
+--   mapsFrom m s k i  == k bytes of them, from byte i on
 --
 -- Assumes nothing: these are definitions.
 use Prim.Native.Nat.{ℕ, zero, suc, _+_, _-_, _*_, _/_, _%_}
 use mathlib.Core.Bool.{Bool, true, false, cond, not}
-use mathlib.Core.List.{List, [], _∷_}
+use mathlib.Core.List.{List, [], _∷_, _++_}
 use lib.ListN.{getD, set, replicate}
 use lib.Dec.{eqb, leb}
 use Rattle.octets.specs.Lists.{both, between}
-use Rattle.bitmap.specs.Bits.{bit, bitOf, withBit}
+use Rattle.bitmap.specs.Bits.{bit, bitOf, bytesOf, withBit}
 
 -- 01: "Bits 1 and 65 are no fields."
 unfoldable pub isField : ℕ → Bool
@@ -45,10 +46,17 @@ noFields = replicate 24 0
 unfoldable pub withField : List ℕ → ℕ → List ℕ
 withField s f = cond (isField f) (set s ((f - 1) / 8) (withBit (getD s ((f - 1) / 8) 0) ((f - 1) % 8))) s
 
+-- 01: "the bitmaps follow from the count and the fields"
+unfoldable pub mapBit : ℕ → List ℕ → ℕ → Bool
+mapBit m s f = cond (eqb f 1) (leb 2 m) (cond (eqb f 65) (leb 3 m) (hasField s f))
+
+unfoldable pub mapsFor : ℕ → List ℕ → List ℕ
+mapsFor m s = bytesOf (mapBit m s) (8 * m) 1 ++ replicate (24 - 8 * m) 0
+
+-- Byte by byte, as they are made: only the first bit of the first two bitmaps is not the set's.
 abbrev pub chain : Bool → ℕ → ℕ
 chain on x = 128 * bit on + x % 128
 
--- the first bit of the first bitmap says whether there is a second, and that of the second whether there is a third
 unfoldable pub mapByte : ℕ → ℕ → ℕ → ℕ
 mapByte m i x =
     cond (leb (8 * m) i) 0
@@ -58,7 +66,3 @@ mapByte m i x =
 unfoldable pub mapsFrom : ℕ → List ℕ → ℕ → ℕ → List ℕ
 mapsFrom m s zero i = []
 mapsFrom m s (suc k) i = mapByte m i (getD s i 0) ∷ mapsFrom m s k (suc i)
-
-unfoldable pub mapsFor : ℕ → List ℕ → List ℕ
-unfolding mapsFrom
-mapsFor m s = mapsFrom m s 24 0

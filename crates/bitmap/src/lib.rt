@@ -1,8 +1,10 @@
 // Bitmaps: which fields a message has. 01, "The message".
 ghost use mathlib.Core.Path.{_≡_};
 ghost use Prim.Native.Nat.{_<_, _≤_, _-_, _^_, min};
+ghost use mathlib.Core.Bool.{true};
+ghost use Rattle.octets.specs.Lists.{all, between};
 ghost use Rattle.bitmap.specs.Bits.{bitOf, withBit};
-ghost use Rattle.bitmap.specs.Bitmaps.{isField, hasField, countOf, noFields, withField, chain, mapByte, mapsFor};
+ghost use Rattle.bitmap.specs.Bitmaps.{isField, hasField, countOf, noFields, withField, chain, mapByte, mapsFrom, mapsFor};
 
 // A set of fields, as 24 bytes of bits placed as in the bitmaps.
 pub struct FieldSet {
@@ -155,7 +157,8 @@ const POWERS: [u8; 8] = [128, 64, 32, 16, 8, 4, 2, 1];
 
 fn map_bytes(count: usize, bits: [u8; 24]) -> [u8; 24]
     requires { ⌜ count ≤ 3 ⌝ }
-    ensures { λ r. ⌜ r ≡ mapsFor count bits ⌝ }
+    ensures made { λ r. ⌜ r ≡ mapsFrom count bits 24 0 ⌝ }
+    ensures bytes { λ r. ⌜ all (between 0 255) r ≡ true ⌝ }
 {
     let mut bytes = [0u8; 24];
     let mut i: usize = 0;
@@ -169,7 +172,8 @@ fn map_bytes(count: usize, bits: [u8; 24]) -> [u8; 24]
 // Byte i of the bitmaps, for fields whose bits there are b.
 fn map_byte(count: usize, i: usize, b: u8) -> u8
     requires { ⌜ count ≤ 3 ⌝ }
-    ensures { λ r. ⌜ r ≡ mapByte count i b ⌝ }
+    ensures made { λ r. ⌜ r ≡ mapByte count i b ⌝ }
+    ensures byte { λ r. ⌜ r < 256 ⌝ }
 {
     if 8 * count <= i {
         return 0;

@@ -68,18 +68,18 @@ judgedField p v m last f o n =
 unfoldable pub judged : Rule → List ℕ → ℕ → ℕ → List ℕ → Judged
 judged p v m last s =
     elim (noteAt s) [
-      Malformed ↦ Refused noteMalformed 0
-    | EndNote u ↦ End u
-    | FieldNote f o n ↦ judgedField p v m last f o n
+      | Malformed ↦ Refused noteMalformed 0
+      | EndNote u ↦ End u
+      | FieldNote f o n ↦ judgedField p v m last f o n
     ]
 
 unfoldable pub passed : Rule → List ℕ → ℕ → ℕ → ℕ → List ℕ → List Entry
 passed p v m zero last s = []
 passed p v m (suc k) last s =
     elim (judged p v m last s) [
-      Refused n f ↦ []
-    | End u ↦ []
-    | Passed f o n ↦ entry f o n ∷ passed p v m k f (drop fieldNoteSize s)
+      | Refused n f ↦ []
+      | End u ↦ []
+      | Passed f o n ↦ entry f o n ∷ passed p v m k f (drop fieldNoteSize s)
     ]
 
 pub data Ending : Type 0 where
@@ -90,9 +90,9 @@ unfoldable pub ending : Rule → List ℕ → ℕ → ℕ → ℕ → ℕ → Li
 ending p v m zero last at s = bad (refusal noteMalformed 0 at)
 ending p v m (suc k) last at s =
     elim (judged p v m last s) [
-      Refused n f ↦ bad (refusal n f at)
-    | End u ↦ ends at u
-    | Passed f o n ↦ ending p v m k f (at + fieldNoteSize) (drop fieldNoteSize s)
+      | Refused n f ↦ bad (refusal n f at)
+      | End u ↦ ends at u
+      | Passed f o n ↦ ending p v m k f (at + fieldNoteSize) (drop fieldNoteSize s)
     ]
 
 -- 01: positions are the "start of the note in question, or where it should start"; a bad head is at 0

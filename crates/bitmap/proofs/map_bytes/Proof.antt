@@ -1,9 +1,13 @@
--- The first i bytes are made.
-use mathlib.Core.Path.{_≡_, _∙_}
+-- The first i bytes are made, and all of them are bytes.
+use mathlib.Core.Path.{_≡_, refl, _∙_}
+use mathlib.Core.Bool.{true}
 use Prim.Native.Nat.{_≤_, _-_}
 use lib.ListN.{length}
+use Rattle.octets.specs.Lists.{between, all}
 use Rattle.octets.proofs.Lists.{laid, laid-none, laid-step, laid-all, lay-whole}
-use Rattle.bitmap.specs.Bitmaps.{mapsFor, noFields}
+use Rattle.bitmap.specs.Bitmaps.{mapsFrom, noFields}
+use Rattle.bitmap.proofs.ByBits.{all-set}
+use Rattle.octets.proofs.Lists.{is-between}
 use Rattle.bitmap.proofs.Maps.{maps-length, maps-at}
 use borrow.Author.Needs.{needs}
 use native.Mathlib.Omega.{arith}
@@ -11,13 +15,14 @@ use Rattle.bitmap.proofs.map_bytes.Statement.{statement}
 use Rattle.bitmap.proofs.map_bytes.Tie as tie
 
 abbrev Inv-loop : tie.InvT-loop
-Inv-loop count bits bytes₀ i₀ bytes i = (i ≤ 24) × ((bytes ≡ laid (mapsFor count bits) noFields i) × (length bytes ≡ 24))
+Inv-loop count bits bytes₀ i₀ bytes i = (i ≤ 24) × ((bytes ≡ laid (mapsFrom count bits 24 0) noFields i) × ((length bytes ≡ 24) × (all (between 0 255) bytes ≡ true)))
 
 abbrev μ-loop : tie.MeasureT-loop
 μ-loop count bits bytes₀ i₀ bytes i = 24 - i
 
 loop-holds : tie.Need-loop-holds Inv-loop μ-loop
-loop-holds c = (search needs, (laid-none _ _, search needs))
+unfolding between
+loop-holds c = (search needs, (laid-none _ _, (search needs, refl)))
 
 array-read-map-byte : tie.Need-array-read-map-byte Inv-loop μ-loop
 array-read-map-byte c = search needs
@@ -41,8 +46,8 @@ loop-again c =
       search needs,
       (
         laid-step _ _ _ _ _ (l .inv .1 .0) (omega (arith, maps-length (a .count) (a .t2))) (omega arith)
-            (maps-at _ _ _ _ (search needs) (c .map-byte .ensures)),
-        search needs,
+            (maps-at _ _ _ _ (search needs) (c .map-byte .ensures .0)),
+        (search needs, all-set (between 0 255) (l .bytes) (l .i) _ (l .inv .1 .1 .1) (is-between 0 255 _ (omega arith) (omega (arith, c .map-byte .ensures .1)))),
       ),
     )
 
@@ -50,8 +55,10 @@ returns : tie.Need-returns Inv-loop μ-loop
 returns c =
     let a = c .before .before .args in
     let l = c .before .loop in
-    let n = maps-length (a .count) (a .t2) in
-    laid-all _ _ _ _ (l .inv .1 .0) (omega arith) (omega arith) ∙ lay-whole (mapsFor (a .count) (a .t2)) noFields (omega arith)
+    let n = maps-length (a .count) (a .t2) in (
+      laid-all _ _ _ _ (l .inv .1 .0) (omega arith) (omega arith) ∙ lay-whole (mapsFrom (a .count) (a .t2) 24 0) noFields (omega arith),
+      l .inv .1 .1 .1,
+    )
 
 pub map-bytes-spec : {M : Type 1} → statement M
 map-bytes-spec =
