@@ -2,3 +2,4 @@ pub mod Bits
 pub mod ByBits
 pub mod Fields
 pub mod Maps
+pub mod Sets

@@ -7,6 +7,9 @@
 --   fieldsOf s m      == the fields present in the m bitmaps s, rising
 --   noFields          == the empty set
 --   withField s f     == the set s with the field f; s where f is no field
+--   isIn g fs         == g is one of the numbers fs
+--   setOf fs          == the set of the fields fs
+--   setFrom s fs      == the set s with the fields fs, one after the other
 --   mapBit m s f      == bit f of m bitmaps for the set s: bits 1 and 65 follow from the count
 --   mapsFor m s       == the 24 bytes of m bitmaps for the set s: eight for each, then zeros
 --   chain on x        == the byte x with its first bit as `on` says
@@ -19,7 +22,7 @@ use mathlib.Core.Bool.{Bool, true, false, cond, not}
 use mathlib.Core.List.{List, [], _∷_, _++_}
 use lib.ListN.{getD, set, replicate}
 use lib.Dec.{eqb, leb}
-use Rattle.octets.specs.Lists.{both, between}
+use Rattle.octets.specs.Lists.{both, either, between}
 use Rattle.bitmap.specs.Bits.{bit, bitOf, bytesOf, withBit}
 
 -- 01: "Bits 1 and 65 are no fields."
@@ -45,6 +48,18 @@ noFields = replicate 24 0
 
 unfoldable pub withField : List ℕ → ℕ → List ℕ
 withField s f = cond (isField f) (set s ((f - 1) / 8) (withBit (getD s ((f - 1) / 8) 0) ((f - 1) % 8))) s
+
+abbrev pub isIn : ℕ → List ℕ → Bool
+isIn g [] = false
+isIn g (f ∷ fs) = either (eqb f g) (isIn g fs)
+
+-- 01: "as 24 bytes of bits placed as in the bitmaps"
+unfoldable pub setOf : List ℕ → List ℕ
+setOf fs = bytesOf (λ g. isIn g fs) 24 1
+
+unfoldable pub setFrom : List ℕ → List ℕ → List ℕ
+setFrom s [] = s
+setFrom s (f ∷ fs) = setFrom (withField s f) fs
 
 -- 01: "the bitmaps follow from the count and the fields"
 unfoldable pub mapBit : ℕ → List ℕ → ℕ → Bool
