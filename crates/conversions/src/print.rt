@@ -1,18 +1,18 @@
 // The parts of a line. Bytes are printed in hex, and as `nothing` where there are none.
 use encoding_length::Measured;
 use libc::STDOUT_FILENO;
-use refusal::Converted;
+use refusal::Output;
 use refusal::Refusal;
 
 // What an output is filled with beforehand, so that a byte left as it was shows.
 pub const UNTOUCHED: u8 = 0xEE;
 
 // What came of a conversion: the bytes at the front of its output, or the refusal.
-pub fn print_converted(answer: Converted, out: &[u8]) {
+pub fn print_converted(answer: Output, out: &[u8]) {
     print(b" -> ");
     match answer {
-        Converted::Written(n) => print_front(out, n),
-        Converted::Refused(why) => print_refusal(why),
+        Output::Written(n) => print_front(out, n),
+        Output::Refused(why) => print_refusal(why),
     }
 }
 

@@ -1,10 +1,10 @@
 // BCD: two digits to a byte. An odd digit count gets a leading 0, so n digits take half of n bytes, rounded up.
 use octets::all_between;
 use refusal::BYTE_COUNT_WRONG;
-use refusal::Converted;
 use refusal::NOT_BCD;
 use refusal::NOT_DIGITS;
 use refusal::OUTPUT_TOO_SHORT;
+use refusal::Output;
 use refusal::Refusal;
 ghost use mathlib.Core.Path.{_≡_};
 ghost use mathlib.Core.Bool.{true};
@@ -16,13 +16,13 @@ ghost use Rattle.refusal.specs.Refusals.{converted, convertedInto};
 ghost use Rattle.encoding_bcd.specs.Bcd.{bytesOf, evened, packed, spread, unpacked, isBcd, spareZero, encodeFault, decodeFault};
 
 // Writes the ASCII digits of src in BCD: 21 where a byte of src is no digit, then 14.
-pub fn encode(src: &[u8], out: &mut [u8]) -> Converted
+pub fn encode(src: &[u8], out: &mut [u8]) -> Output
     ensures answers { λ r. ⌜ r ≡ converted (encodeFault (now (src .entry))) (packed (now (src .entry))) (now (out .entry)) ⌝ }
     ensures writes { λ _. ⌜ now (out .exit) ≡ convertedInto (encodeFault (now (src .entry))) (packed (now (src .entry))) (now (out .entry)) ⌝ }
 {
     let fault = encode_fault(src);
     if fault != 0 {
-        return Converted::Refused(Refusal {
+        return Output::Refused(Refusal {
             number: fault,
             field: 0,
             position: 0,
@@ -30,39 +30,39 @@ pub fn encode(src: &[u8], out: &mut [u8]) -> Converted
     }
     let n = bytes_of(src.len());
     if out.len() < n {
-        return Converted::Refused(Refusal {
+        return Output::Refused(Refusal {
             number: OUTPUT_TOO_SHORT,
             field: 0,
             position: 0,
         });
     }
     put_packed(src, out);
-    Converted::Written(n)
+    Output::Written(n)
 }
 
 // Writes the given count of ASCII digits from the BCD of src: 23 where src is not half of them bytes long, rounded up;
 // 22 where a half-byte is over 9 or the spare leading digit of an odd count is not 0; then 14.
-pub fn decode(src: &[u8], digits: usize, out: &mut [u8]) -> Converted
+pub fn decode(src: &[u8], digits: usize, out: &mut [u8]) -> Output
     ensures answers { λ r. ⌜ r ≡ converted (decodeFault digits (now (src .entry))) (unpacked digits (now (src .entry))) (now (out .entry)) ⌝ }
     ensures writes { λ _. ⌜ now (out .exit) ≡ convertedInto (decodeFault digits (now (src .entry))) (unpacked digits (now (src .entry))) (now (out .entry)) ⌝ }
 {
     let fault = decode_fault(src, digits);
     if fault != 0 {
-        return Converted::Refused(Refusal {
+        return Output::Refused(Refusal {
             number: fault,
             field: 0,
             position: 0,
         });
     }
     if out.len() < digits {
-        return Converted::Refused(Refusal {
+        return Output::Refused(Refusal {
             number: OUTPUT_TOO_SHORT,
             field: 0,
             position: 0,
         });
     }
     put_unpacked(src, digits, out);
-    Converted::Written(digits)
+    Output::Written(digits)
 }
 
 // How many bytes n digits take. No sum here is over n, however large it is.

@@ -1,8 +1,8 @@
 // EBCDIC: each byte stands for another by a table of 256 entries, in which every byte value stands once.
 use octets::all_between;
-use refusal::Converted;
 use refusal::NO_ASCII_MEANING;
 use refusal::OUTPUT_TOO_SHORT;
+use refusal::Output;
 use refusal::Refusal;
 ghost use mathlib.Core.Path.{_≡_};
 ghost use mathlib.Core.List.{map};
@@ -273,51 +273,51 @@ const TABLE: [u8; 256] = [
 ];
 
 // Writes the ASCII text of src in EBCDIC: 24 where a byte of src is over 0x7F, then 14.
-pub fn encode(src: &[u8], out: &mut [u8]) -> Converted
+pub fn encode(src: &[u8], out: &mut [u8]) -> Output
     ensures answers { λ r. ⌜ r ≡ converted (encodeFault (now (src .entry))) (map ebcdicOf (now (src .entry))) (now (out .entry)) ⌝ }
     ensures writes { λ _. ⌜ now (out .exit) ≡ convertedInto (encodeFault (now (src .entry))) (map ebcdicOf (now (src .entry))) (now (out .entry)) ⌝ }
 {
     let fault = encode_fault(src);
     if fault != 0 {
-        return Converted::Refused(Refusal {
+        return Output::Refused(Refusal {
             number: fault,
             field: 0,
             position: 0,
         });
     }
     if out.len() < src.len() {
-        return Converted::Refused(Refusal {
+        return Output::Refused(Refusal {
             number: OUTPUT_TOO_SHORT,
             field: 0,
             position: 0,
         });
     }
     put_encoded(src, out);
-    Converted::Written(src.len())
+    Output::Written(src.len())
 }
 
 // Writes the EBCDIC text of src in ASCII: 24 where the meaning of a byte is over 0x7F, then 14.
-pub fn decode(src: &[u8], out: &mut [u8]) -> Converted
+pub fn decode(src: &[u8], out: &mut [u8]) -> Output
     ensures answers { λ r. ⌜ r ≡ converted (decodeFault (now (src .entry))) (map asciiOf (now (src .entry))) (now (out .entry)) ⌝ }
     ensures writes { λ _. ⌜ now (out .exit) ≡ convertedInto (decodeFault (now (src .entry))) (map asciiOf (now (src .entry))) (now (out .entry)) ⌝ }
 {
     let fault = decode_fault(src);
     if fault != 0 {
-        return Converted::Refused(Refusal {
+        return Output::Refused(Refusal {
             number: fault,
             field: 0,
             position: 0,
         });
     }
     if out.len() < src.len() {
-        return Converted::Refused(Refusal {
+        return Output::Refused(Refusal {
             number: OUTPUT_TOO_SHORT,
             field: 0,
             position: 0,
         });
     }
     put_decoded(src, out);
-    Converted::Written(src.len())
+    Output::Written(src.len())
 }
 
 fn encode_fault(src: &[u8]) -> u8

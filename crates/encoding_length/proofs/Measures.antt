@@ -15,8 +15,8 @@ use Rattle.octets.proofs.Lists.{lay-length}
 use Rattle.refusal.specs.Numbers.{lengthNeedsDigits, byteCountWrong, lengthNotDigits}
 use Rattle.refusal.specs.Refusals.{plain, converted, convertedInto}
 use Rattle.refusal.specs.declared.Refusal.{Refusal}
-use Rattle.refusal.specs.declared.Converted.{Converted}
-use Rattle.refusal.specs.declared.Converted.the-variants.{Written, Refused as Unwritten}
+use Rattle.refusal.specs.declared.Output.{Output}
+use Rattle.refusal.specs.declared.Output.the-variants.{Written, Refused as Unwritten}
 use Rattle.refusal.proofs.Conversions.{converted-fits, converted-into-fits, converted-fails}
 use Rattle.encoding_length.specs.Lengths.{isWidth, sizeOf, textOf, alphabetFault, decodeFault, measured}
 use Rattle.encoding_length.specs.declared.Encoding.{Encoding}
@@ -56,7 +56,7 @@ module _ (e : Encoding) (w : ℕ) (s : List ℕ) where
           measured-fails byteCountWrong (rw (← tested, not-false flag good, ne-eqb (length s) (sizeOf e w) (λ z. h (z ∙ sym asked)))) (λ z. omega arith)
 
       -- d is the text as it was lent, with room for three characters, and r what writing into it answered
-      module _ (sized : length s ≡ m) (d : List ℕ) (room : length d ≡ 3) (r : Converted) (answered : r ≡ converted (alphabetFault e w s) (textOf e w s) d) where
+      module _ (sized : length s ≡ m) (d : List ℕ) (room : length d ≡ 3) (r : Output) (answered : r ≡ converted (alphabetFault e w s) (textOf e w s) d) where
         long : length (textOf e w s) ≡ w
         long = text-length e w s (sized ∙ asked)
 

@@ -13,7 +13,7 @@ use Rattle.octets.proofs.Lists.{is-between, between-high, placed-fits, placed-l
 use Rattle.octets.proofs.Numbers.{digits-length, digits-between}
 use Rattle.refusal.specs.Numbers.{noAsciiMeaning}
 use Rattle.refusal.specs.Refusals.{converted, convertedInto}
-use Rattle.refusal.specs.declared.Converted.{Converted}
+use Rattle.refusal.specs.declared.Output.{Output}
 use Rattle.encoding_bcd.specs.Bcd.{encodeFault as bcdEncodeFault}
 use Rattle.encoding_bcd.proofs.Unpacking.{unpacked-length}
 use Rattle.encoding_ebcdic.specs.Ebcdic.{asciiOf, encodeFault as ebcdicEncodeFault}
@@ -23,7 +23,7 @@ use Rattle.encoding_length.specs.declared.Encoding.the-variants.{Ascii, 
 use Rattle.encoding_length.proofs.Widths.{width-most, fault-width}
 
 -- a conversion is the same where its fault and its bytes are
-pub same-conversion : (f g : ℕ) (a b d o : List ℕ) (r : Converted) → f ≡ g → a ≡ b → (r ≡ converted f a d) × (o ≡ convertedInto f a d) → (r ≡ converted g b d) × (o ≡ convertedInto g b d)
+pub same-conversion : (f g : ℕ) (a b d o : List ℕ) (r : Output) → f ≡ g → a ≡ b → (r ≡ converted f a d) × (o ≡ convertedInto f a d) → (r ≡ converted g b d) × (o ≡ convertedInto g b d)
 same-conversion f g a b d o r p q h = (h .0 ∙ rw (p, q), h .1 ∙ rw (p, q))
 
 -- what was laid over the front of a buffer is its front
@@ -49,7 +49,7 @@ module _ (fault w n : ℕ) (tested : fault ≡ encodeFault w n) (good : fault �
   text-digits = rw digits-text (digits-between 10 48 57 w n (omega arith) (omega arith))
 
   -- r and o are the answer and the output of writing that text in the encoding e
-  pub encoded-answer : (e : Encoding) (out : List ℕ) (r : Converted) → r ≡ converted 0 (spelt e (take w t)) out → r ≡ converted (encodeFault w n) (spelt e (decimal w n)) out
+  pub encoded-answer : (e : Encoding) (out : List ℕ) (r : Output) → r ≡ converted 0 (spelt e (take w t)) out → r ≡ converted (encodeFault w n) (spelt e (decimal w n)) out
   encoded-answer e out r h = h ∙ rw (digits-text, ← tested, good)
 
   pub encoded-output : (e : Encoding) (out o : List ℕ) → o ≡ convertedInto 0 (spelt e (take w t)) out → o ≡ convertedInto (encodeFault w n) (spelt e (decimal w n)) out

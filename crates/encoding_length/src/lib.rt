@@ -5,11 +5,11 @@ use octets::decimal_of;
 use octets::put;
 use octets::put_decimal;
 use refusal::BYTE_COUNT_WRONG;
-use refusal::Converted;
 use refusal::LENGTH_NEEDS_DIGITS;
 use refusal::LENGTH_NOT_DIGITS;
 use refusal::NO_ASCII_MEANING;
 use refusal::OUTPUT_TOO_SHORT;
+use refusal::Output;
 use refusal::Refusal;
 ghost use mathlib.Core.Path.{_≡_};
 ghost use mathlib.Core.Bool.{true, cond};
@@ -34,13 +34,13 @@ pub enum Measured {
 }
 
 // Writes a length in the given count of digits: 25 where these are not two or three or the length needs more, then 14.
-pub fn encode(length: usize, digits: usize, encoding: Encoding, out: &mut [u8]) -> Converted
+pub fn encode(length: usize, digits: usize, encoding: Encoding, out: &mut [u8]) -> Output
     ensures answers { λ r. ⌜ r ≡ converted (encodeFault digits length) (spelt encoding (decimal digits length)) (now (out .entry)) ⌝ }
     ensures writes { λ _. ⌜ now (out .exit) ≡ convertedInto (encodeFault digits length) (spelt encoding (decimal digits length)) (now (out .entry)) ⌝ }
 {
     let fault = encode_fault(length, digits);
     if fault != 0 {
-        return Converted::Refused(Refusal {
+        return Output::Refused(Refusal {
             number: fault,
             field: 0,
             position: 0,
@@ -72,8 +72,8 @@ pub fn decode(src: &[u8], digits: usize, encoding: Encoding) -> Measured
     }
     let mut text = [0u8; 3];
     match put_text(src, digits, encoding, &mut text) {
-        Converted::Refused(why) => Measured::Refused(why),
-        Converted::Written(n) => measure(&text[..n]),
+        Output::Refused(why) => Measured::Refused(why),
+        Output::Written(n) => measure(&text[..n]),
     }
 }
 
@@ -111,7 +111,7 @@ fn least_too_long(digits: usize) -> usize
 }
 
 // Writes ASCII digits in the encoding: 14 alone can be refused.
-fn put_spelt(text: &[u8], encoding: Encoding, out: &mut [u8]) -> Converted
+fn put_spelt(text: &[u8], encoding: Encoding, out: &mut [u8]) -> Output
     requires { ⌜ all isDigit (now text) ≡ true ⌝ }
     ensures answers { λ r. ⌜ r ≡ converted 0 (spelt encoding (now (text .entry))) (now (out .entry)) ⌝ }
     ensures writes { λ _. ⌜ now (out .exit) ≡ convertedInto 0 (spelt encoding (now (text .entry))) (now (out .entry)) ⌝ }
@@ -124,27 +124,27 @@ fn put_spelt(text: &[u8], encoding: Encoding, out: &mut [u8]) -> Converted
 }
 
 // Copies ASCII text: 24 where a byte is over 0x7F, then 14.
-fn copy(src: &[u8], out: &mut [u8]) -> Converted
+fn copy(src: &[u8], out: &mut [u8]) -> Output
     ensures answers { λ r. ⌜ r ≡ converted (asciiFault (now (src .entry))) (now (src .entry)) (now (out .entry)) ⌝ }
     ensures writes { λ _. ⌜ now (out .exit) ≡ convertedInto (asciiFault (now (src .entry))) (now (src .entry)) (now (out .entry)) ⌝ }
 {
     let fault = ascii_fault(src);
     if fault != 0 {
-        return Converted::Refused(Refusal {
+        return Output::Refused(Refusal {
             number: fault,
             field: 0,
             position: 0,
         });
     }
     if out.len() < src.len() {
-        return Converted::Refused(Refusal {
+        return Output::Refused(Refusal {
             number: OUTPUT_TOO_SHORT,
             field: 0,
             position: 0,
         });
     }
     put(src, out);
-    Converted::Written(src.len())
+    Output::Written(src.len())
 }
 
 fn ascii_fault(src: &[u8]) -> u8
@@ -168,7 +168,7 @@ fn size_of(digits: usize, encoding: Encoding) -> usize
 }
 
 // Writes the text of src in ASCII: 22 or 24 where it is none of the encoding, then 14.
-fn put_text(src: &[u8], digits: usize, encoding: Encoding, out: &mut [u8]) -> Converted
+fn put_text(src: &[u8], digits: usize, encoding: Encoding, out: &mut [u8]) -> Output
     ensures answers { λ r. ⌜ r ≡ converted (alphabetFault encoding digits (now (src .entry))) (textOf encoding digits (now (src .entry))) (now (out .entry)) ⌝ }
     ensures writes { λ _. ⌜ now (out .exit) ≡ convertedInto (alphabetFault encoding digits (now (src .entry))) (textOf encoding digits (now (src .entry))) (now (out .entry)) ⌝ }
 {

@@ -10,8 +10,8 @@ use Rattle.octets.specs.Lists.{lay, placed}
 use Rattle.octets.proofs.Lists.{placed-short, placed-fits}
 use Rattle.refusal.specs.Numbers.{outputTooShort}
 use Rattle.refusal.specs.Refusals.{plain, tell, told, converted, convertedInto}
-use Rattle.refusal.specs.declared.Converted.{Converted}
-use Rattle.refusal.specs.declared.Converted.the-variants.{Written, Refused}
+use Rattle.refusal.specs.declared.Output.{Output}
+use Rattle.refusal.specs.declared.Output.the-variants.{Written, Refused}
 
 module _ (fault source : ℕ) (r d : List ℕ) (tested : fault ≡ source) where
   pub refused-answer : (fault ≡ 0 → ⊥) → Refused (plain fault) ≡ converted source r d

@@ -18,8 +18,8 @@ use lib.Dec.{leb, eqb}
 use Rattle.octets.specs.Lists.{placed}
 use Rattle.refusal.specs.Numbers.{outputTooShort}
 use Rattle.refusal.specs.declared.Refusal.{Refusal}
-use Rattle.refusal.specs.declared.Converted.{Converted}
-use Rattle.refusal.specs.declared.Converted.the-variants.{Written, Refused}
+use Rattle.refusal.specs.declared.Output.{Output}
+use Rattle.refusal.specs.declared.Output.the-variants.{Written, Refused}
 
 abbrev pub refusal : ℕ → ℕ → ℕ → Refusal
 refusal n f p = record { number = n; field = f; position = p }
@@ -35,12 +35,12 @@ pub record Told : Type 0 where
 abbrev pub tell : Refusal → List ℕ → Told
 tell r vs = record { refused = r; values = vs }
 
-abbrev pub told : Converted → Told
+abbrev pub told : Output → Told
 told (Written n) = tell (plain 0) (n ∷ [])
 told (Refused r) = tell r (0 ∷ [])
 
 -- 01: "Conversions test their source first …, then 14."
-unfoldable pub converted : ℕ → List ℕ → List ℕ → Converted
+unfoldable pub converted : ℕ → List ℕ → List ℕ → Output
 converted n r out =
     cond (eqb n 0)
     (cond (leb (length r) (length out)) (Written (length r)) (Refused (plain outputTooShort)))

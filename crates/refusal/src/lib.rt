@@ -7,8 +7,8 @@ pub struct Refusal {
     pub position: usize,
 }
 
-// What a conversion answers: how many bytes it wrote, or why it wrote none.
-pub enum Converted {
+// What a routine that writes answers: how many bytes it wrote, or why it wrote none.
+pub enum Output {
     Written(usize),
     Refused(Refusal),
 }
