@@ -1,2 +1,4 @@
+pub mod Ends
+pub mod Folds
 pub mod Steps
 pub mod Written

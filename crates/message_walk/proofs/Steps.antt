@@ -20,7 +20,7 @@ use Rattle.message_notes.specs.declared.Note.{Note}
 use Rattle.message_notes.specs.declared.Note.the-variants.{Field as FieldNote, End as EndNote, Malformed}
 use Rattle.message_walk.specs.declared.Judged.{Judged}
 use Rattle.message_walk.specs.declared.Judged.the-variants.{Passed, End, Refused}
-use Rattle.message_walk.specs.Walk.{Rule, numberAllowed, contentOf, judgedField, judged, passed, Ending, bad, ends, ending}
+use Rattle.message_walk.specs.Walk.{Test, numberAllowed, contentOf, judgedField, judged, passed, Ending, bad, ends, ending}
 
 -- what stands at the front of the notes
 by-note : {P : Type 0} (o : Note) → (o ≡ Malformed → P) → ((u : ℕ) → o ≡ EndNote u → P) → ((f a n : ℕ) → o ≡ FieldNote f a n → P) → P
@@ -40,7 +40,7 @@ end-no-field : (o : Note) (u f a n : ℕ) → o ≡ EndNote u → o ≡ FieldNot
 end-no-field o u f a n p q = let z : _≡_ {A = ℕ} 0 1 = cc in omega arith
 
 -- the judge, by what it finds
-module _ (p : Rule) (v : List ℕ) (m last : ℕ) (s : List ℕ) where
+module _ (p : Test) (v : List ℕ) (m last : ℕ) (s : List ℕ) where
   pub judged-malformed : noteAt s ≡ Malformed → judged p v m last s ≡ Refused noteMalformed 0
   unfolding judged
   judged-malformed e = rw (judged, e)
@@ -54,7 +54,7 @@ module _ (p : Rule) (v : List ℕ) (m last : ℕ) (s : List ℕ) where
   judged-note f a n e = rw (judged, e)
 
 -- What it means that a field's note passes.
-pub record Good (p : Rule) (v : List ℕ) (m last f a n : ℕ) : Type 0 where
+pub record Good (p : Test) (v : List ℕ) (m last f a n : ℕ) : Type 0 where
   pub allowed : numberAllowed m last f ≡ true
   pub inside : a + n ≤ length v
   pub ruled : p f (contentOf v a n) ≡ 0
@@ -65,7 +65,7 @@ never o x y f a n p q = let z : _≡_ {A = ℕ} 0 1 = cc in omega arith
 never-end : (o : Judged) (u f a n : ℕ) → o ≡ End u → o ≡ Passed f a n → ⊥
 never-end o u f a n p q = let z : _≡_ {A = ℕ} 0 1 = cc in omega arith
 
-module _ (p : Rule) (v : List ℕ) (m last f a n : ℕ) where
+module _ (p : Test) (v : List ℕ) (m last f a n : ℕ) where
   pub passes : Good p v m last f a n → judgedField p v m last f a n ≡ Passed f a n
   unfolding judgedField
   passes g = rw (g .allowed, le-leb (a + n) (length v) (g .inside), eq-eqb (p f (contentOf v a n)) 0 (g .ruled))
@@ -84,11 +84,11 @@ module _ (p : Rule) (v : List ℕ) (m last f a n : ℕ) where
       (λ no-number. absurd (never _ numberNotAllowed f f′ a′ n′ (rw no-number) e))
 
 -- A note that passes is a field's, and whole.
-pub record Passing (p : Rule) (v : List ℕ) (m last : ℕ) (s : List ℕ) (f a n : ℕ) : Type 0 where
+pub record Passing (p : Test) (v : List ℕ) (m last : ℕ) (s : List ℕ) (f a n : ℕ) : Type 0 where
   pub note : noteAt s ≡ FieldNote f a n
   pub good : Good p v m last f a n
 
-pub passing : (p : Rule) (v : List ℕ) (m last : ℕ) (s : List ℕ) (f a n : ℕ) → judged p v m last s ≡ Passed f a n → Passing p v m last s f a n
+pub passing : (p : Test) (v : List ℕ) (m last : ℕ) (s : List ℕ) (f a n : ℕ) → judged p v m last s ≡ Passed f a n → Passing p v m last s f a n
 passing p v m last s f a n e =
     by-note (noteAt s)
     (λ h. absurd (never _ noteMalformed 0 f a n (judged-malformed p v m last s h) e))
@@ -122,7 +122,7 @@ note-whole s f a n e =
     (λ k. absurd (no-field _ f a n (rw (ne-eqb (getD s 0 0) fieldKind h, ne-eqb (getD s 0 0) endKind k)) e)))
 
 -- One note more: how a walk ends, and what it passes, where k bytes may be left and some are.
-module _ (p : Rule) (v : List ℕ) (m k last at : ℕ) (s : List ℕ) where
+module _ (p : Test) (v : List ℕ) (m k last at : ℕ) (s : List ℕ) where
   pub ending-bad : (n f : ℕ) → judged p v m last s ≡ Refused n f → ending p v m (suc k) last at s ≡ bad (refusal n f at)
   unfolding ending
   ending-bad n f e = rw (ending, e)
@@ -135,7 +135,7 @@ module _ (p : Rule) (v : List ℕ) (m k last at : ℕ) (s : List ℕ) where
   unfolding ending
   ending-more f a n e = rw (ending, e)
 
-module _ (p : Rule) (v : List ℕ) (m k last : ℕ) (s : List ℕ) where
+module _ (p : Test) (v : List ℕ) (m k last : ℕ) (s : List ℕ) where
   pub passed-bad : (n f : ℕ) → judged p v m last s ≡ Refused n f → passed p v m (suc k) last s ≡ []
   unfolding passed
   passed-bad n f e = rw (passed, e)

@@ -19,15 +19,15 @@ use Rattle.message_notes.proofs.Sizes.{bytes-long, head-long, field-long, field
 use Rattle.message_notes.proofs.Spelling.{Fits, AllFit}
 use Rattle.message_notes.proofs.Reading.{field-back, end-back}
 use Rattle.message_walk.specs.declared.Judged.the-variants.{Passed, End}
-use Rattle.message_walk.specs.Walk.{Rule, headNumber, countIn, mtiIn, judged, passed, Ending, ends, ending, walked, entriesIn}
+use Rattle.message_walk.specs.Walk.{Test, headNumber, countIn, mtiIn, judged, passed, Ending, ends, ending, walked, entriesIn}
 use Rattle.message_walk.proofs.Steps.{Good, passes, judged-end, judged-note, ending-end, ending-more, passed-end, passed-more}
 
 -- entries that pass one after the other, the first above last
-pub data Walkable (p : Rule) (v : List ℕ) (m : ℕ) : ℕ → List Entry → Type 0 where
+pub data Walkable (p : Test) (v : List ℕ) (m : ℕ) : ℕ → List Entry → Type 0 where
   none : {last : ℕ} → Walkable p v m last []
   more : {last f a n : ℕ} {es : List Entry} → Good p v m last f a n → Walkable p v m f es → Walkable p v m last (entry f a n ∷ es)
 
-module _ (p : Rule) (v : List ℕ) (m u : ℕ) (z : List ℕ) (small : u < 4294967296) where
+module _ (p : Test) (v : List ℕ) (m u : ℕ) (z : List ℕ) (small : u < 4294967296) where
   abbrev tail : List ℕ
   tail = endNote u ++ z
 
@@ -113,7 +113,7 @@ module _ (r : Reading) (u : ℕ) (z : List ℕ) (four : length (r .mti) ≡ 4) (
   head-good =
       rw (le-leb headSize (length notes) (omega (arith, long)), eq-eqb (getD notes 0 0) headKind kind-is, is-between 1 3 (getD notes 5 0) (omega (arith, count-in)) (omega (arith, count-in)), mti-in, digit)
 
-  module _ (p : Rule) (v : List ℕ) (small : u < 4294967296) (fit : AllFit (r .entries)) (w : Walkable p v (r .count) 0 (r .entries)) where
+  module _ (p : Test) (v : List ℕ) (small : u < 4294967296) (fit : AllFit (r .entries)) (w : Walkable p v (r .count) 0 (r .entries)) where
     whole : Walks p v (r .count) u z small (r .entries) (length notes) 0 headSize
     whole = walks p v (r .count) u z small w fit (length notes) headSize (omega (arith, long))
 

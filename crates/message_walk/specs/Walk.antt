@@ -1,14 +1,14 @@
 -- The walk over notes that lookup, both writers and the required check share. 01: "Writers walk the notes; head: 9 then 3; field: 9, 10,
--- 11, …; end: 9, …"; "Lookup walks head 9, 3, fields 9, 10, 11, end 9". What is asked of a content besides is a parameter: a rule gives
--- 01's number for a field's number and content, or 0 where it asks nothing more.
+-- 11, …; end: 9, …"; "Lookup walks head 9, 3, fields 9, 10, 11, end 9". What is asked of a content besides is a parameter: a test gives
+-- 01's number for a field's number and content, or 0 where it finds nothing.
 --
---   Rule                      == a field's number and content to a refusal's number, or 0
+--   Test                      == from a field's number and its content to a refusal's number, or 0
 --   headNumber n              == 0 where the notes n begin with a good head, else 9 or 3
 --   countIn n                 == the count of bitmaps in the head of n
 --   mtiIn n                   == the MTI in it
 --   numberAllowed m last f    == f may follow the number last where there are m bitmaps
 --   contentOf v o n           == the n bytes of the values v at o
---   judged p v m last s       == what the note at the front of s is found to be by the rule p
+--   judged p v m last s       == what the note at the front of s is found to be by the test p
 --   passed p v m k last s     == the entries of the notes from s on that pass, up to the first that does not, or the end note
 --   Ending                    == how a walk ends: at the end note, with its place and number, or with a refusal
 --   ending p v m k last at s  == how it ends, where s stands at the place `at`; k is the number of bytes left, so that it does
@@ -33,8 +33,8 @@ use Rattle.message_notes.specs.declared.Note.the-variants.{Field as FieldNote, 
 use Rattle.message_walk.specs.declared.Judged.{Judged}
 use Rattle.message_walk.specs.declared.Judged.the-variants.{Passed, End, Refused}
 
-abbrev pub Rule : Type 0
-Rule = ℕ → List ℕ → ℕ
+abbrev pub Test : Type 0
+Test = ℕ → List ℕ → ℕ
 
 -- 01: "note missing, cut, wrong kind, or count not 1-3", then "MTI has a non-digit"
 unfoldable pub headNumber : List ℕ → ℕ
@@ -57,7 +57,7 @@ abbrev pub contentOf : List ℕ → ℕ → ℕ → List ℕ
 contentOf v o n = take n (drop o v)
 
 -- 01: "offset plus length is over the values' size"
-unfoldable pub judgedField : Rule → List ℕ → ℕ → ℕ → ℕ → ℕ → ℕ → Judged
+unfoldable pub judgedField : Test → List ℕ → ℕ → ℕ → ℕ → ℕ → ℕ → Judged
 judgedField p v m last f o n =
     cond (numberAllowed m last f)
     (cond (leb (o + n) (length v))
@@ -65,7 +65,7 @@ judgedField p v m last f o n =
     (Refused outsideValues f))
     (Refused numberNotAllowed f)
 
-unfoldable pub judged : Rule → List ℕ → ℕ → ℕ → List ℕ → Judged
+unfoldable pub judged : Test → List ℕ → ℕ → ℕ → List ℕ → Judged
 judged p v m last s =
     elim (noteAt s) [
       | Malformed ↦ Refused noteMalformed 0
@@ -73,7 +73,7 @@ judged p v m last s =
       | FieldNote f o n ↦ judgedField p v m last f o n
     ]
 
-unfoldable pub passed : Rule → List ℕ → ℕ → ℕ → ℕ → List ℕ → List Entry
+unfoldable pub passed : Test → List ℕ → ℕ → ℕ → ℕ → List ℕ → List Entry
 passed p v m zero last s = []
 passed p v m (suc k) last s =
     elim (judged p v m last s) [
@@ -86,7 +86,7 @@ pub data Ending : Type 0 where
   bad : Refusal → Ending
   ends : ℕ → ℕ → Ending
 
-unfoldable pub ending : Rule → List ℕ → ℕ → ℕ → ℕ → ℕ → List ℕ → Ending
+unfoldable pub ending : Test → List ℕ → ℕ → ℕ → ℕ → ℕ → List ℕ → Ending
 ending p v m zero last at s = bad (refusal noteMalformed 0 at)
 ending p v m (suc k) last at s =
     elim (judged p v m last s) [
@@ -96,11 +96,11 @@ ending p v m (suc k) last at s =
     ]
 
 -- 01: positions are the "start of the note in question, or where it should start"; a bad head is at 0
-unfoldable pub walked : Rule → List ℕ → List ℕ → Ending
+unfoldable pub walked : Test → List ℕ → List ℕ → Ending
 walked p v n =
     cond (eqb (headNumber n) 0)
     (ending p v (countIn n) (length n) 0 headSize (drop headSize n))
     (bad (plain (headNumber n)))
 
-unfoldable pub entriesIn : Rule → List ℕ → List ℕ → List Entry
+unfoldable pub entriesIn : Test → List ℕ → List ℕ → List Entry
 entriesIn p v n = passed p v (countIn n) (length n) 0 (drop headSize n)

@@ -1,0 +1,47 @@
+-- Lookup: a field's content, given values, notes and a number. 01: "Lookup walks head 9, 3, fields 9, 10, 11, end 9, then 15."
+--
+--   foundIn f at es     == where the entries es have field f; 15 at the end note's place `at` where they do not
+--   lookedUp v n f      == what lookup answers: the whole walk is judged first, wherever the field was met
+--   toldFound r         == what the answer tells; its values are the content's offset and length
+--   startOf r           == where the part that is handed back starts: at the content, or at the values' front where it is refused
+--   sizeOf r            == how long it is: as long as the content, or empty
+--
+-- Assumes nothing: these are definitions.
+use Prim.Native.Nat.{ℕ}
+use mathlib.Core.Bool.{Bool, true, false, cond}
+use mathlib.Core.List.{List, [], _∷_}
+use lib.Dec.{eqb}
+use Rattle.refusal.specs.Numbers.{fieldAbsent}
+use Rattle.refusal.specs.Refusals.{refusal, plain, Told, tell}
+use Rattle.message_language.specs.Language.{Entry}
+use Rattle.message_walk.specs.Walk.{Test, Ending, bad, ends, walked, entriesIn}
+use Rattle.message_lookup.specs.declared.Found.{Found}
+use Rattle.message_lookup.specs.declared.Found.the-variants.{At, Refused}
+
+abbrev pub any : Test
+any f c = 0
+
+-- 01: "15 the end note"
+unfoldable pub foundIn : ℕ → ℕ → List Entry → Found
+foundIn f at [] = Refused (refusal fieldAbsent f at)
+foundIn f at (e ∷ es) = cond (eqb (e .number) f) (At (e .offset) (e .size)) (foundIn f at es)
+
+unfoldable pub foundBy : Ending → ℕ → List Entry → Found
+foundBy (bad r) f es = Refused r
+foundBy (ends at u) f es = foundIn f at es
+
+unfoldable pub lookedUp : List ℕ → List ℕ → ℕ → Found
+lookedUp v n f = foundBy (walked any v n) f (entriesIn any v n)
+
+abbrev pub toldFound : Found → Told
+toldFound (At o n) = tell (plain 0) (o ∷ n ∷ [])
+toldFound (Refused r) = tell r (0 ∷ 0 ∷ [])
+
+-- 01: "handed back as a part of the caller's own buffer; when refused it is the empty part at its front"
+abbrev pub startOf : Found → ℕ
+startOf (At o n) = o
+startOf (Refused r) = 0
+
+abbrev pub sizeOf : Found → ℕ
+sizeOf (At o n) = n
+sizeOf (Refused r) = 0

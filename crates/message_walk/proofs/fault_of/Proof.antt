@@ -1,0 +1,46 @@
+-- Each arm passes on what it called.
+use Prim.Native.Nat.{_-_}
+use Rattle.message_walk.specs.Answers.{testOf}
+use borrow.Author.Needs.{needs}
+use Rattle.message_walk.proofs.fault_of.Statement.{statement}
+use Rattle.message_walk.proofs.fault_of.Tie as tie
+
+enum-told : tie.Need-enum-told
+enum-told c = search needs
+
+enum-told-2 : tie.Need-enum-told-2
+enum-told-2 c = search needs
+
+exact-fault-requires : tie.Need-exact-fault-requires
+exact-fault-requires c κs = search needs
+
+enum-told-3 : tie.Need-enum-told-3
+enum-told-3 c = search needs
+
+clean-fault-requires : tie.Need-clean-fault-requires
+clean-fault-requires c κs = search needs
+
+returns : tie.Need-returns
+unfolding testOf
+returns c = cc
+
+returns-2 : tie.Need-returns-2
+unfolding testOf
+returns-2 c = cc
+
+returns-3 : tie.Need-returns-3
+unfolding testOf
+returns-3 c = cc
+
+pub fault-of-spec : {M : Type 1} → statement M
+fault-of-spec =
+    tie.close
+    (tie.spec
+    enum-told
+    enum-told-2
+    exact-fault-requires
+    enum-told-3
+    clean-fault-requires
+    returns
+    returns-2
+    returns-3)
