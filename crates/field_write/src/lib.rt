@@ -44,7 +44,38 @@ pub fn is_allowed_length(number: usize, length: usize) -> bool
     length <= most
 }
 
-// 01: "text is any bytes up to 0x7F, binary is any bytes".
+// Whether a content of that length is padded when it is written to field number.
+pub fn is_short(number: usize, length: usize) -> bool
+    ensures { λ r. ⌜ r ≡ isShort house number length ⌝ }
+{
+    0 < missing(number, length)
+}
+
+// How many bytes field number takes with a content of that length; 0 for a length that no note can hold.
+pub fn written_size(number: usize, length: usize) -> usize
+    ensures { λ r. ⌜ r ≡ cond (leb length longest) (writtenSize house number length) 0 ⌝ }
+{
+    if LONGEST < length {
+        return 0;
+    }
+    field_table::width_of(number) + length + missing(number, length)
+}
+
+// Writes field number to the front of out. No content is refused here: one that is too long is written whole, after the last digits
+// of its length. Where the field does not fit, out is left as it is.
+pub fn put_field(number: usize, content: &[u8], out: &mut [u8])
+    ensures { λ _. ⌜ now (out .exit) ≡ placed (fieldBytes house number (now (content .entry))) (now (out .entry)) ⌝ }
+{
+    let width = field_table::width_of(number);
+    if width == 0 {
+        let pad = missing(number, content.len());
+        put_padded(field_table::class_of(number), pad, content, out);
+        return;
+    }
+    put_counted(width, content, out);
+}
+
+// 8 where the content is text and has a byte that is not; else 0. 01: "text is any bytes up to 0x7F, binary is any bytes".
 fn text_fault(class: Class, content: &[u8]) -> u8
     ensures { λ r. ⌜ r ≡ textFault class (now (content .entry)) ⌝ }
 {
@@ -55,4 +86,105 @@ fn text_fault(class: Class, content: &[u8]) -> u8
         return 0;
     }
     refusal::TEXT_NOT_ASCII
+}
+
+// By how many bytes a content of that length is too short for field number; a variable one never is.
+fn missing(number: usize, length: usize) -> usize
+    ensures { λ r. ⌜ r ≡ missing house number length ⌝ }
+{
+    if field_table::width_of(number) != 0 {
+        return 0;
+    }
+    let most = field_table::most_of(number);
+    if most < length {
+        return 0;
+    }
+    most - length
+}
+
+// Writes the content with pad bytes of padding, on the side and of the kind that its class has.
+fn put_padded(class: Class, pad: usize, content: &[u8], out: &mut [u8])
+    ensures { λ _. ⌜ now (out .exit) ≡ placed (padded class pad (now (content .entry))) (now (out .entry)) ⌝ }
+{
+    let b = pad_byte(class);
+    if pads_left(class) {
+        put_padding_first(pad, b, content, out);
+        return;
+    }
+    put_padding_last(pad, b, content, out);
+}
+
+// 01: "`n` with `0` …, `b` with zero bytes …, all others with spaces".
+fn pad_byte(class: Class) -> u8
+    ensures { λ r. ⌜ r ≡ padByte class ⌝ }
+{
+    match class {
+        Class::N => b'0',
+        Class::A => b' ',
+        Class::An => b' ',
+        Class::Ans => b' ',
+        Class::Ns => b' ',
+        Class::Z => b' ',
+        Class::Xn => b' ',
+        Class::B => 0,
+    }
+}
+
+// 01: "`n` … on the left, … all others … on the right".
+fn pads_left(class: Class) -> bool
+    ensures { λ r. ⌜ r ≡ padsLeft class ⌝ }
+{
+    match class {
+        Class::N => true,
+        Class::A => false,
+        Class::An => false,
+        Class::Ans => false,
+        Class::Ns => false,
+        Class::Z => false,
+        Class::Xn => false,
+        Class::B => false,
+    }
+}
+
+// Writes pad bytes b, and the content behind them.
+fn put_padding_first(pad: usize, b: u8, content: &[u8], out: &mut [u8])
+    ensures { λ _. ⌜ now (out .exit) ≡ placed (replicate pad b ++ now (content .entry)) (now (out .entry)) ⌝ }
+{
+    if out.len() < pad {
+        return;
+    }
+    if out.len() - pad < content.len() {
+        return;
+    }
+    octets::fill(out, pad, b);
+    octets::put(content, &mut out[pad..]);
+}
+
+// Writes the content, and pad bytes b behind it.
+fn put_padding_last(pad: usize, b: u8, content: &[u8], out: &mut [u8])
+    ensures { λ _. ⌜ now (out .exit) ≡ placed (now (content .entry) ++ replicate pad b) (now (out .entry)) ⌝ }
+{
+    let length = content.len();
+    if out.len() < length {
+        return;
+    }
+    if out.len() - length < pad {
+        return;
+    }
+    octets::put(content, out);
+    octets::fill(&mut out[length..], pad, b);
+}
+
+// Writes the content's length in width digits, and the content.
+fn put_counted(width: usize, content: &[u8], out: &mut [u8])
+    ensures { λ _. ⌜ now (out .exit) ≡ placed (decimal width (length (now (content .entry))) ++ now (content .entry)) (now (out .entry)) ⌝ }
+{
+    if out.len() < width {
+        return;
+    }
+    if out.len() - width < content.len() {
+        return;
+    }
+    octets::put_decimal(content.len(), width, out);
+    octets::put(content, &mut out[width..]);
 }

@@ -1,4 +1,5 @@
 pub mod Ends
 pub mod Folds
 pub mod Steps
+pub mod Weaker
 pub mod Written

@@ -97,6 +97,28 @@ passing p v m last s f a n e =
     let g = passed-good p v m last f′ a′ n′ f a n (sym (judged-note p v m last s f′ a′ n′ h) ∙ e) in
     record { note = h ∙ rw (g .1 .0, g .1 .1 .0, g .1 .1 .1); good = rw (← g .1 .0, ← g .1 .1 .0, ← g .1 .1 .1) (g .0) })
 
+-- A walk that ends does so at an end note.
+no-end : (o : Judged) (x f u : ℕ) → o ≡ Refused x f → o ≡ End u → ⊥
+no-end o x f u p q = let z : _≡_ {A = ℕ} 0 1 = cc in omega arith
+
+field-no-end : (p : Test) (v : List ℕ) (m last f a n u : ℕ) → judgedField p v m last f a n ≡ End u → ⊥
+unfolding judgedField
+field-no-end p v m last f a n u e =
+    by-bool (numberAllowed m last f)
+    (λ al. by-bool (leb (a + n) (length v))
+    (λ ins. by-eq (p f (contentOf v a n)) 0
+    (λ z. never-end (End u) u f a n refl (sym (rw (al, ins, eq-eqb (p f (contentOf v a n)) 0 z) at e)))
+    (λ z. no-end _ (p f (contentOf v a n)) f u (rw (al, ins, ne-eqb (p f (contentOf v a n)) 0 z)) e))
+    (λ out. no-end _ outsideValues f u (rw (al, out)) e))
+    (λ no-number. no-end _ numberNotAllowed f u (rw no-number) e)
+
+pub ends-note : (p : Test) (v : List ℕ) (m last : ℕ) (s : List ℕ) (u : ℕ) → judged p v m last s ≡ End u → noteAt s ≡ EndNote u
+ends-note p v m last s u e =
+    by-note (noteAt s)
+    (λ h. absurd (no-end _ noteMalformed 0 u (judged-malformed p v m last s h) e))
+    (λ w h. let i : End w ≡ End u = sym (judged-end p v m last s w h) ∙ e in let j : w ≡ u = cc in h ∙ ap EndNote j)
+    (λ f a n h. absurd (field-no-end p v m last f a n u (sym (judged-note p v m last s f a n h) ∙ e)))
+
 -- a whole field note has its eight bytes
 field-whole : (s : List ℕ) (f a n : ℕ) → fieldNoteAt s ≡ FieldNote f a n → fieldNoteSize ≤ length s
 unfolding fieldNoteAt

@@ -1,5 +1,4 @@
 -- One law for each end, in Faults.
-use Prim.Native.Nat.{_-_}
 use Rattle.field_write.proofs.Faults.{allowed-fixed, allowed-variable}
 use borrow.Author.Needs.{needs}
 use Rattle.field_write.proofs.is_allowed_length.Statement.{statement}

@@ -1,5 +1,4 @@
 -- One law for each end, in Faults.
-use Prim.Native.Nat.{_-_}
 use Rattle.field_write.proofs.Faults.{text-binary, text-ascii, text-high}
 use borrow.Author.Needs.{needs}
 use Rattle.field_write.proofs.text_fault.Statement.{statement}
