@@ -29,7 +29,10 @@ fn fields_in(values: &[u8], notes: &[u8]) -> FieldSet
     let mut at = message_notes::HEAD_SIZE;
     while at <= notes.len() {
         match message_walk::judge(values, &notes[at..], count, last, Rule::Any) {
-            Judged::Refused { number: _, field: _ } => {
+            Judged::Refused {
+                number: _,
+                field: _,
+            } => {
                 return fields;
             }
             Judged::End(_) => {
@@ -60,7 +63,10 @@ fn padded_in(values: &[u8], notes: &[u8]) -> FieldSet
     let mut at = message_notes::HEAD_SIZE;
     while at <= notes.len() {
         match message_walk::judge(values, &notes[at..], count, last, Rule::Any) {
-            Judged::Refused { number: _, field: _ } => {
+            Judged::Refused {
+                number: _,
+                field: _,
+            } => {
                 return fields;
             }
             Judged::End(_) => {

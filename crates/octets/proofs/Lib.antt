@@ -1,5 +1,6 @@
 pub mod Cases
 pub mod Lists
 pub mod Numbers
+pub mod Numerals
 pub mod Parts
 pub mod Tables

@@ -3,8 +3,8 @@ use Prim.Native.Nat.{ℕ, zero, suc, _+_, _-_, _≤_, _<_}
 use mathlib.Core.Path.{_≡_, refl, sym, ap, _∙_}
 use mathlib.Core.List.{List, [], _∷_, _++_, append-assoc, append-nil}
 use native.Mathlib.Omega.{arith}
-use lib.ListN.{length, take, drop, set, length-append, length-take, length-drop, take-append-drop, drop-of-length-le}
-use lib.Seq.{take-append-seam, drop-append-seam, take-all, drop-drop, take-at, drop-at}
+use lib.ListN.{length, take, drop, getD, set, length-append, length-take, length-drop, take-append-drop, drop-of-length-le}
+use lib.Seq.{take-append-seam, drop-append-seam, take-all, drop-cons, drop-drop, take-at, drop-at, set-at}
 use borrow.Rule.Slice.PartMut.{midOf, putMid}
 use Rattle.octets.specs.Lists.{lay, placed}
 use Rattle.octets.proofs.Lists.{lay-length, placed-fits}
@@ -36,6 +36,13 @@ pub lay-one : (x : ℕ) (d : List ℕ) → 0 < length d → set d 0 x ≡ lay (x
 unfolding lay
 lay-one x [] h = absurd (omega arith)
 lay-one x (y ∷ d) h = refl
+
+-- a at the front, then a byte stored behind it
+pub lay-byte : (a d e : List ℕ) (n x : ℕ) → e ≡ lay a d → length a ≡ n → n < length d → set e n x ≡ lay (a ++ (x ∷ [])) d
+unfolding lay
+lay-byte a d e n x he hn h =
+    rw (he, drop-cons d (length a) 0 (omega arith), length-append a (x ∷ []), ← drop-drop 1 (length a) d, drop-cons d (length a) 0 (omega arith))
+    (set-at a (getD d (length a) 0) (drop (suc (length a)) d) x n hn ∙ sym (append-assoc a (x ∷ []) (drop (suc (length a)) d)))
 
 -- as the code has it, where the writer of the rest tests by itself whether b fits
 pub placed-part : (a b d e f : List ℕ) (n : ℕ) → e ≡ lay a d → length a ≡ n → n + length b ≤ length d → f ≡ placed b (midOf n (length e - n) e)

@@ -7,6 +7,7 @@ ghost use lib.ListN.{length, replicate};
 ghost use lib.Dec.{leb};
 ghost use Rattle.octets.specs.Lists.{all, between, lead, lay, placed};
 ghost use Rattle.octets.specs.Numbers.{digits, decimal, decimalOf, bigEndian, bigEndianOf};
+ghost use Rattle.octets.specs.Numerals.{digitCount, numeral};
 
 // A byte as a number that can be reckoned with.
 pub fn wide(b: u8) -> usize
@@ -169,4 +170,27 @@ pub fn big_endian_of(s: &[u8]) -> usize
         i += 1;
     }
     n
+}
+
+// How many decimal digits n has without leading zeros; at least one.
+pub fn digit_count(n: usize) -> usize
+    ensures { λ r. ⌜ r ≡ digitCount n ⌝ }
+{
+    let mut left = n;
+    let mut count: usize = 1;
+    while 10 <= left {
+        left = left / 10;
+        count += 1;
+    }
+    count
+}
+
+// Writes n in decimal digits without leading zeros, and answers how many they are. Where they do not fit, out is left as it is.
+pub fn put_numeral(n: usize, out: &mut [u8]) -> usize
+    ensures size { λ r. ⌜ r ≡ length (numeral n) ⌝ }
+    ensures writes { λ _. ⌜ now (out .exit) ≡ placed (numeral n) (now (out .entry)) ⌝ }
+{
+    let count = digit_count(n);
+    put_decimal(n, count, out);
+    count
 }

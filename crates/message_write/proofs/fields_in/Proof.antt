@@ -21,9 +21,9 @@ none-requires : tie.Need-none-requires Inv-loop μ-loop
 none-requires c κs = search needs
 
 loop-holds : tie.Need-loop-holds Inv-loop μ-loop
-loop-holds c = 
+loop-holds c =
     let st = c .before .before .before .before in
-    (length (st .args .notes .now), putting-first _ _  (st .pre) _ (c .none .ensures))
+    (length (st .args .notes .now), putting-first _ _ (st .pre) _ (c .none .ensures))
 
 sub-judge : tie.Need-sub-judge Inv-loop μ-loop
 sub-judge c = search needs
@@ -41,7 +41,7 @@ enum-told : tie.Need-enum-told Inv-loop μ-loop
 enum-told c = search needs
 
 returns : tie.Need-returns Inv-loop μ-loop
-returns c = 
+returns c =
     let j = c .before .before in
     let l = j .before .before .before in
     let s = l .before .before in
@@ -56,7 +56,7 @@ enum-told-2 : tie.Need-enum-told-2 Inv-loop μ-loop
 enum-told-2 c = search needs
 
 returns-2 : tie.Need-returns-2 Inv-loop μ-loop
-returns-2 c = 
+returns-2 c =
     let j = c .before .before in
     let l = j .before .before .before in
     let s = l .before .before in
@@ -74,7 +74,7 @@ with-requires : tie.Need-with-requires Inv-loop μ-loop
 with-requires c κs = search needs
 
 add-at : tie.Need-add-at Inv-loop μ-loop
-add-at c = 
+add-at c =
     let j = c .before .before .before .before in
     let l = j .before .before .before in
     let s = l .before .before in
@@ -86,7 +86,7 @@ add-at c =
     omega (arith, putting-room v n _ _ _ _ w _ e _ _ _ (c .before .before .number .given .1))
 
 loop-less : tie.Need-loop-less Inv-loop μ-loop
-loop-less c = 
+loop-less c =
     let j = c .before .before .before .before in
     let l = j .before .before .before in
     let s = l .before .before in
@@ -98,7 +98,7 @@ loop-less c =
     omega (arith, putting-room v n _ _ _ _ w _ e _ _ _ (c .before .before .number .given .1))
 
 loop-again : tie.Need-loop-again Inv-loop μ-loop
-loop-again c = 
+loop-again c =
     let j = c .before .before .before .before in
     let l = j .before .before .before in
     let s = l .before .before in

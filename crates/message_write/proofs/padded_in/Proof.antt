@@ -21,7 +21,7 @@ none-requires : tie.Need-none-requires Inv-loop μ-loop
 none-requires c κs = search needs
 
 loop-holds : tie.Need-loop-holds Inv-loop μ-loop
-loop-holds c = 
+loop-holds c =
     let st = c .before .before .before .before in
     (length (st .args .notes .now), padding-first _ _ _ (st .pre) _ (c .none .ensures))
 
@@ -41,7 +41,7 @@ enum-told : tie.Need-enum-told Inv-loop μ-loop
 enum-told c = search needs
 
 returns : tie.Need-returns Inv-loop μ-loop
-returns c = 
+returns c =
     let j = c .before .before in
     let l = j .before .before .before in
     let s = l .before .before in
@@ -56,7 +56,7 @@ enum-told-2 : tie.Need-enum-told-2 Inv-loop μ-loop
 enum-told-2 c = search needs
 
 returns-2 : tie.Need-returns-2 Inv-loop μ-loop
-returns-2 c = 
+returns-2 c =
     let j = c .before .before in
     let l = j .before .before .before in
     let s = l .before .before in
@@ -77,7 +77,7 @@ with-requires : tie.Need-with-requires Inv-loop μ-loop
 with-requires c κs = search needs
 
 add-at : tie.Need-add-at Inv-loop μ-loop
-add-at c = 
+add-at c =
     let j = c .before .before .before .before .before .before in
     let l = j .before .before .before in
     let s = l .before .before in
@@ -89,7 +89,7 @@ add-at c =
     omega (arith, padding-room v n house _ _ _ _ w _ e _ _ _ (c .before .before .before .before .number .given .1))
 
 loop-less : tie.Need-loop-less Inv-loop μ-loop
-loop-less c = 
+loop-less c =
     let j = c .before .before .before .before .before .before in
     let l = j .before .before .before in
     let s = l .before .before in
@@ -101,7 +101,7 @@ loop-less c =
     omega (arith, padding-room v n house _ _ _ _ w _ e _ _ _ (c .before .before .before .before .number .given .1))
 
 loop-again : tie.Need-loop-again Inv-loop μ-loop
-loop-again c = 
+loop-again c =
     let j = c .before .before .before .before .before .before in
     let l = j .before .before .before in
     let s = l .before .before in
@@ -113,7 +113,7 @@ loop-again c =
     (l .loop .inv .0 - 1, padding-short v n house _ _ _ _ w _ e _ _ _ (c .before .before .before .before .number .given .1) _ (c .before .before .is-short .ensures) _ (c .before .if1 .taken) (c .with .ensures))
 
 add-at-2 : tie.Need-add-at-2 Inv-loop μ-loop
-add-at-2 c = 
+add-at-2 c =
     let j = c .before .before .before .before .before in
     let l = j .before .before .before in
     let s = l .before .before in
@@ -125,7 +125,7 @@ add-at-2 c =
     omega (arith, padding-room v n house _ _ _ _ w _ e _ _ _ (c .before .before .before .number .given .1))
 
 loop-less-2 : tie.Need-loop-less-2 Inv-loop μ-loop
-loop-less-2 c = 
+loop-less-2 c =
     let j = c .before .before .before .before .before in
     let l = j .before .before .before in
     let s = l .before .before in
@@ -137,7 +137,7 @@ loop-less-2 c =
     omega (arith, padding-room v n house _ _ _ _ w _ e _ _ _ (c .before .before .before .number .given .1))
 
 loop-again-2 : tie.Need-loop-again-2 Inv-loop μ-loop
-loop-again-2 c = 
+loop-again-2 c =
     let j = c .before .before .before .before .before in
     let l = j .before .before .before in
     let s = l .before .before in

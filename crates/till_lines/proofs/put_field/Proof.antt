@@ -1,0 +1,37 @@
+-- The line is one of three words and their numbers.
+use Prim.Native.Nat.{_-_}
+use Rattle.till_lines.specs.Lines.{fieldLine}
+use borrow.Author.Needs.{needs}
+use Rattle.till_lines.proofs.put_field.Statement.{statement}
+use Rattle.till_lines.proofs.put_field.Tie as tie
+
+slice-aggregate-put-tripled : tie.Need-slice-aggregate-put-tripled
+slice-aggregate-put-tripled c = search needs
+
+slice-aggregate-put-tripled-2 : tie.Need-slice-aggregate-put-tripled-2
+slice-aggregate-put-tripled-2 c = search needs
+
+slice-aggregate-put-tripled-3 : tie.Need-slice-aggregate-put-tripled-3
+slice-aggregate-put-tripled-3 c = search needs
+
+put-tripled-requires : tie.Need-put-tripled-requires
+unfolding fieldLine
+put-tripled-requires c κs = c .before .before .before .before .before .pre
+
+same-length : tie.Need-same-length
+same-length c = search needs
+
+returns : tie.Need-returns
+unfolding fieldLine
+returns c = c .before .before .put-tripled .ensures
+
+pub put-field-spec : {M : Type 1} → statement M
+put-field-spec =
+    tie.close
+    (tie.spec
+    slice-aggregate-put-tripled
+    slice-aggregate-put-tripled-2
+    slice-aggregate-put-tripled-3
+    put-tripled-requires
+    same-length
+    returns)

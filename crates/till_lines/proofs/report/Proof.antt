@@ -1,0 +1,100 @@
+-- Each end of the code is a case of the report.
+use mathlib.Core.Path.{sym, _∙_}
+use Prim.Native.Nat.{_-_}
+use Rattle.field_table.specs.House.{house}
+use Rattle.till_lines.proofs.Reports.{answered, noted, too-long, refused-lines, accepted-lines, report-short, report-written}
+use borrow.Author.Needs.{needs}
+use Rattle.till_lines.proofs.report.Statement.{statement}
+use Rattle.till_lines.proofs.report.Tie as tie
+
+returns : tie.Need-returns
+returns c = report-short house _ _ (c .if1 .taken)
+
+put-refused-requires : tie.Need-put-refused-requires
+put-refused-requires c κs = search needs
+
+same-length : tie.Need-same-length
+same-length c = search needs
+
+returns-2 : tie.Need-returns-2
+returns-2 c =
+    let e = c .before .before .before .before .before in
+    let a = e .before .before .before .args in
+    let w = c .before .before .put-refused .ensures in
+    report-written house (a .input .now) (a .text .now) (e .if1 .left) _ _ _ (too-long house (a .input .now) (c .before .before .before .before .if2 .taken)) (w .0) (w .1)
+
+slice-aggregate-read : tie.Need-slice-aggregate-read
+slice-aggregate-read c = search needs
+
+read-requires : tie.Need-read-requires
+read-requires c κs = search needs
+
+enum-known-refusal : tie.Need-enum-known-refusal
+enum-known-refusal c = search needs
+
+put-refused-requires-2 : tie.Need-put-refused-requires-2
+put-refused-requires-2 c κs = search needs
+
+enum-known-used : tie.Need-enum-known-used
+enum-known-used c = search needs
+
+slice-aggregate-put-reading : tie.Need-slice-aggregate-put-reading
+slice-aggregate-put-reading c = search needs
+
+put-reading-requires : tie.Need-put-reading-requires
+put-reading-requires c κs =
+    let k = c in
+    let e = k .before .before .before .before .before .before .before .before in
+    let a = e .before .before .before .before .args in
+    let r = k .before .before .before .before .before .before .read .ensures in
+    let g = sym (r .0) ∙ k .before .before .before .used .given .1 in
+    let m = answered house (a .input .now) _ g in
+    (e .if2 .left, (m, (noted house (a .input .now) _ _ _ g (r .1), e .before .if1 .left)))
+
+same-length-2 : tie.Need-same-length-2
+same-length-2 c = search needs
+
+returns-3 : tie.Need-returns-3
+returns-3 c =
+    let k = c .before .before .before in
+    let e = k .before .before .before .before .before .before .before in
+    let a = e .before .before .before .before .args in
+    let r = k .before .before .before .before .before .read .ensures in
+    let g = sym (r .0) ∙ k .before .before .refusal .given .1 in
+    let m = answered house (a .input .now) _ g in
+    let w = c .before .before .put-refused2 .ensures in
+    report-written house (a .input .now) (a .text .now) (e .before .if1 .left) _ _ _ (refused-lines house (a .input .now) (e .if2 .left) _ m) (w .0) (w .1)
+
+same-length-3 : tie.Need-same-length-3
+same-length-3 c = search needs
+
+returns-4 : tie.Need-returns-4
+returns-4 c =
+    let k = c .before .before .before in
+    let e = k .before .before .before .before .before .before .before .before in
+    let a = e .before .before .before .before .args in
+    let r = k .before .before .before .before .before .before .read .ensures in
+    let g = sym (r .0) ∙ k .before .before .before .used .given .1 in
+    let m = answered house (a .input .now) _ g in
+    let w = c .before .before .put-reading .ensures in
+    report-written house (a .input .now) (a .text .now) (e .before .if1 .left) _ _ _ (accepted-lines house (a .input .now) (e .if2 .left) _ _ m) (w .0) (w .1)
+
+pub report-spec : {M : Type 1} → statement M
+report-spec =
+    tie.close
+    (tie.spec
+    returns
+    put-refused-requires
+    same-length
+    returns-2
+    slice-aggregate-read
+    read-requires
+    enum-known-refusal
+    put-refused-requires-2
+    enum-known-used
+    slice-aggregate-put-reading
+    put-reading-requires
+    same-length-2
+    returns-3
+    same-length-3
+    returns-4)
