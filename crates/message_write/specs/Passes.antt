@@ -1,19 +1,11 @@
--- What the passes over notes that are known to be good make of the entries.
+-- The test that finds nothing: what a pass over notes that are known to be good asks of contents.
 --
---   any             == the test that finds nothing
---   bodySize t es   == how many bytes the fields of the entries es take
+--   any   == no refusal, whatever the field and its content
 --
 -- Assumes nothing: these are definitions.
-use Prim.Native.Nat.{ℕ, _+_}
-use mathlib.Core.List.{List, [], _∷_}
-use Rattle.field_table.specs.Table.{Table}
-use Rattle.field_write.specs.Fields.{writtenSize}
-use Rattle.message_language.specs.Language.{Entry}
+use Prim.Native.Nat.{ℕ}
+use mathlib.Core.List.{List}
 use Rattle.message_walk.specs.Walk.{Test}
 
 abbrev pub any : Test
 any f c = 0
-
-unfoldable pub bodySize : Table → List Entry → ℕ
-bodySize t [] = 0
-bodySize t (e ∷ es) = writtenSize t (e .number) (e .size) + bodySize t es

@@ -7,16 +7,104 @@ use message_walk::Walked;
 use refusal::Output;
 use refusal::Refusal;
 ghost use mathlib.Core.Path.{_≡_};
-ghost use Prim.Native.Nat.{_≤_, _+_, _*_};
+ghost use mathlib.Core.List.{List};
+ghost use Prim.Native.Nat.{ℕ, _≤_};
 ghost use lib.ListN.{length};
-ghost use Rattle.octets.specs.Lists.{lay, placed};
+ghost use Rattle.octets.specs.Lists.{lay};
 ghost use Rattle.field_table.specs.House.{house};
-ghost use Rattle.field_write.specs.Fields.{exactFault, cleanFault};
 ghost use Rattle.bitmap.specs.Bitmaps.{setOf};
-ghost use Rattle.message_walk.specs.Walk.{countIn, mtiIn, entriesIn};
+ghost use Rattle.message_walk.specs.Walk.{headNumber, countIn, mtiIn, entriesIn};
 ghost use Rattle.message_walk.specs.Answers.{testOf};
 ghost use Rattle.message_write.specs.Written.{numbersOf, bodyOf, messageOf, shortIn, answered, laidOut, answerBy, outputBy, paddedBy};
-ghost use Rattle.message_write.specs.Passes.{any, bodySize};
+ghost use Rattle.message_write.specs.Passes.{any};
+
+// What the cleaning writer answers: as the exact one, and the set of the fields that it padded, empty where it refuses.
+pub struct Cleaned {
+    pub answer: Output,
+    pub padded: FieldSet,
+}
+
+// Writes the message that notes and values stand for, to the byte. A refusal leaves out as it was.
+pub fn write_exact(values: &[u8], notes: &[u8], out: &mut [u8]) -> Output
+    ensures answers { λ r. ⌜ r ≡ answerBy (testOf house Rule.Exact) house (now (values .entry)) (now (notes .entry)) (now (out .entry)) ⌝ }
+    ensures writes { λ _. ⌜ now (out .exit) ≡ outputBy (testOf house Rule.Exact) house (now (values .entry)) (now (notes .entry)) (now (out .entry)) ⌝ }
+{
+    write_by(values, notes, Rule::Exact, out)
+}
+
+// Writes it with short fixed contents padded, cuts nothing, and names each field that it padded. A refusal leaves out as it was.
+pub fn write_clean(values: &[u8], notes: &[u8], out: &mut [u8]) -> Cleaned
+    ensures answers { λ r. ⌜ r .answer ≡ answerBy (testOf house Rule.Clean) house (now (values .entry)) (now (notes .entry)) (now (out .entry)) ⌝ }
+    ensures padded { λ r. ⌜ r .padded .bits ≡ paddedBy (testOf house Rule.Clean) house (now (values .entry)) (now (notes .entry)) (now (out .entry)) ⌝ }
+    ensures writes { λ _. ⌜ now (out .exit) ≡ outputBy (testOf house Rule.Clean) house (now (values .entry)) (now (notes .entry)) (now (out .entry)) ⌝ }
+{
+    let answer = write_by(values, notes, Rule::Clean, out);
+    match answer {
+        Output::Refused(_) => Cleaned {
+            answer,
+            padded: FieldSet::none(),
+        },
+        Output::Written(_) => Cleaned {
+            answer,
+            padded: padded_in(values, notes),
+        },
+    }
+}
+
+// Walks the notes by the rule, which takes no content that the cleaning writer refuses; then writes.
+fn write_by(values: &[u8], notes: &[u8], rule: Rule, out: &mut [u8]) -> Output
+    requires { ⌜ ((f : ℕ) (c : List ℕ) → testOf house rule f c ≡ 0 → testOf house Rule.Clean f c ≡ 0) ⌝ }
+    ensures answers { λ r. ⌜ r ≡ answerBy (testOf house rule) house (now (values .entry)) (now (notes .entry)) (now (out .entry)) ⌝ }
+    ensures writes { λ _. ⌜ now (out .exit) ≡ outputBy (testOf house rule) house (now (values .entry)) (now (notes .entry)) (now (out .entry)) ⌝ }
+{
+    match message_walk::walk(values, notes, rule) {
+        Walked::Refused(refusal) => Output::Refused(refusal),
+        Walked::Ended { at, said } => write_ended(values, notes, at, said, out),
+    }
+}
+
+// 13 where the end note at the place at says another length than the message has, then 14; then writes the message.
+fn write_ended(values: &[u8], notes: &[u8], at: usize, said: usize, out: &mut [u8]) -> Output
+    requires { ⌜ headNumber (now notes) ≡ 0 ⌝ }
+    requires { ⌜ entriesIn any (now values) (now notes) ≡ entriesIn (testOf house Rule.Clean) (now values) (now notes) ⌝ }
+    ensures answers { λ r. ⌜ r ≡ answered at said (messageOf house (now (values .entry)) (mtiIn (now (notes .entry))) (countIn (now (notes .entry))) (entriesIn (testOf house Rule.Clean) (now (values .entry)) (now (notes .entry)))) (now (out .entry)) ⌝ }
+    ensures writes { λ _. ⌜ now (out .exit) ≡ laidOut said (messageOf house (now (values .entry)) (mtiIn (now (notes .entry))) (countIn (now (notes .entry))) (entriesIn (testOf house Rule.Clean) (now (values .entry)) (now (notes .entry)))) (now (out .entry)) ⌝ }
+{
+    let count = message_walk::count_in(notes);
+    let length = 4 + 8 * count + measure(values, notes);
+    if said != length {
+        return Output::Refused(Refusal {
+            number: refusal::END_DIFFERS,
+            field: 0,
+            position: at,
+        });
+    }
+    if out.len() < length {
+        return Output::Refused(Refusal {
+            number: refusal::OUTPUT_TOO_SHORT,
+            field: 0,
+            position: at,
+        });
+    }
+    write_message(values, notes, out);
+    Output::Written(length)
+}
+
+// Writes MTI, bitmaps and fields, each behind the last.
+fn write_message(values: &[u8], notes: &[u8], out: &mut [u8])
+    requires { ⌜ headNumber (now notes) ≡ 0 ⌝ }
+    requires { ⌜ entriesIn any (now values) (now notes) ≡ entriesIn (testOf house Rule.Clean) (now values) (now notes) ⌝ }
+    requires { ⌜ length (messageOf house (now values) (mtiIn (now notes)) (countIn (now notes)) (entriesIn (testOf house Rule.Clean) (now values) (now notes))) ≤ length (now out) ⌝ }
+    ensures { λ _. ⌜ now (out .exit) ≡ lay (messageOf house (now (values .entry)) (mtiIn (now (notes .entry))) (countIn (now (notes .entry))) (entriesIn (testOf house Rule.Clean) (now (values .entry)) (now (notes .entry)))) (now (out .entry)) ⌝ }
+{
+    let count = message_walk::count_in(notes);
+    let maps = Bitmaps::of(count, fields_in(values, notes)).to_bytes();
+    let size = 8 * count;
+    let start = 4 + size;
+    octets::put(&notes[1..5], out);
+    octets::put(&maps[0..size], &mut out[4..]);
+    write_body(values, notes, &mut out[start..]);
+}
 
 // The set of the fields that the notes name.
 fn fields_in(values: &[u8], notes: &[u8]) -> FieldSet
@@ -89,4 +177,76 @@ fn padded_in(values: &[u8], notes: &[u8]) -> FieldSet
         }
     }
     fields
+}
+
+// How many bytes the fields take, padded where they are short.
+fn measure(values: &[u8], notes: &[u8]) -> usize
+    requires { ⌜ 6 ≤ length (now notes) ⌝ }
+    ensures size { λ r. ⌜ r ≡ length (bodyOf house (now (values .entry)) (entriesIn (testOf house Rule.Clean) (now (values .entry)) (now (notes .entry)))) ⌝ }
+    ensures small { λ r. ⌜ r ≤ 400000 ⌝ }
+{
+    let count = message_walk::count_in(notes);
+    let mut total: usize = 0;
+    let mut last: usize = 0;
+    let mut at = message_notes::HEAD_SIZE;
+    while at <= notes.len() {
+        match message_walk::judge(values, &notes[at..], count, last, Rule::Clean) {
+            Judged::Refused {
+                number: _,
+                field: _,
+            } => {
+                return total;
+            }
+            Judged::End(_) => {
+                return total;
+            }
+            Judged::Passed {
+                number,
+                offset: _,
+                length,
+            } => {
+                total += field_write::written_size(number, length);
+                last = number;
+                at += message_notes::FIELD_NOTE_SIZE;
+            }
+        }
+    }
+    total
+}
+
+// Writes the fields one behind the other, each into the rest of the output.
+fn write_body(values: &[u8], notes: &[u8], out: &mut [u8])
+    requires { ⌜ 6 ≤ length (now notes) ⌝ }
+    requires { ⌜ length (bodyOf house (now values) (entriesIn (testOf house Rule.Clean) (now values) (now notes))) ≤ length (now out) ⌝ }
+    ensures { λ _. ⌜ now (out .exit) ≡ lay (bodyOf house (now (values .entry)) (entriesIn (testOf house Rule.Clean) (now (values .entry)) (now (notes .entry)))) (now (out .entry)) ⌝ }
+{
+    let count = message_walk::count_in(notes);
+    let mut written: usize = 0;
+    let mut last: usize = 0;
+    let mut at = message_notes::HEAD_SIZE;
+    while at <= notes.len() {
+        match message_walk::judge(values, &notes[at..], count, last, Rule::Clean) {
+            Judged::Refused {
+                number: _,
+                field: _,
+            } => {
+                return;
+            }
+            Judged::End(_) => {
+                return;
+            }
+            Judged::Passed {
+                number,
+                offset,
+                length,
+            } => {
+                let end = offset + length;
+                let size = field_write::written_size(number, length);
+                field_write::put_field(number, &values[offset..end], &mut out[written..]);
+                written += size;
+                last = number;
+                at += message_notes::FIELD_NOTE_SIZE;
+            }
+        }
+    }
 }

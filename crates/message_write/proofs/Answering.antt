@@ -1,0 +1,199 @@
+-- The ends of the writers, with the facts as the code has them. Assumes nothing.
+use Prim.Native.Nat.{ℕ, zero, suc, _+_, _-_, _*_, _≤_, _<_, min}
+use mathlib.Core.Path.{_≡_, refl, sym, ap, _∙_}
+use mathlib.Core.Bool.{Bool, true, false, cond}
+use mathlib.Core.List.{List, [], _∷_, _++_, append-assoc}
+use native.Mathlib.Omega.{arith}
+use lib.Dec.{eqb, leb}
+use lib.ListN.{length, take, drop, getD, replicate, length-append, length-drop, length-replicate}
+use lib.Seq.{length-take-le}
+use borrow.Author.Tests.{eq-eqb, ne-eqb, le-leb, lt-leb, leb-true}
+use Rattle.octets.specs.Lists.{both, between, all, lay, placed}
+use Rattle.octets.specs.Numbers.{isDigit}
+use Rattle.octets.proofs.Cases.{by-bool, by-eq, both-left, both-right, false-true}
+use Rattle.octets.proofs.Lists.{between-low, between-high, placed-short, placed-fits}
+use Rattle.refusal.specs.Numbers.{noteMalformed, mtiNotDigits, endDiffers, outputTooShort}
+use Rattle.refusal.specs.Refusals.{refusal, plain}
+use Rattle.refusal.specs.declared.Refusal.{Refusal}
+use Rattle.refusal.specs.declared.Output.{Output}
+use Rattle.refusal.specs.declared.Output.the-variants.{Written, Refused}
+use Rattle.field_table.specs.Table.{Table}
+use Rattle.bitmap.specs.Bits.{bytesOf}
+use Rattle.bitmap.specs.Bitmaps.{mapBit, mapsFor, setOf, noFields}
+use Rattle.message_language.specs.Language.{Entry}
+use Rattle.message_notes.specs.Notes.{headKind, headSize}
+use Rattle.message_walk.specs.declared.Rule.{Rule}
+use Rattle.message_walk.specs.declared.Rule.the-variants.{Clean}
+use Rattle.message_walk.specs.declared.Walked.{Walked}
+use Rattle.message_walk.specs.declared.Walked.the-variants.{Ended, Refused as WalkRefused}
+use Rattle.message_walk.specs.Walk.{Test, headNumber, countIn, mtiIn, Ending, bad, ends, ending, walked, entriesIn}
+use Rattle.message_walk.specs.Answers.{testOf, answerOf, walkedBy}
+use Rattle.message_walk.proofs.Weaker.{weaker-walked, weaker-entries}
+use Rattle.message_write.specs.Written.{numbersOf, bodyOf, bitmapsOf, messageOf, shortIn, bytesBy, answered, laidOut, answerOn, outputOn, answerBy, outputBy, paddedOn, paddedBy}
+use Rattle.message_write.specs.Passes.{any}
+
+-- sizes
+bytes-long : (p : ℕ → Bool) (k f : ℕ) → length (bytesOf p k f) ≡ k
+unfolding bytesOf
+bytes-long p zero f = refl
+bytes-long p (suc k) f = ap suc (bytes-long p k (f + 8))
+
+pub maps-long : (m : ℕ) (s : List ℕ) → m ≤ 3 → length (mapsFor m s) ≡ 24
+unfolding mapsFor
+maps-long m s h =
+    length-append (bytesOf (mapBit m s) (8 * m) 1) (replicate (24 - 8 * m) 0)
+    ∙ omega (arith, bytes-long (mapBit m s) (8 * m) 1, length-replicate {A = ℕ} (24 - 8 * m) 0)
+
+pub bitmaps-long : (m : ℕ) (es : List Entry) → m ≤ 3 → length (bitmapsOf m es) ≡ 8 * m
+unfolding bitmapsOf
+bitmaps-long m es h = length-take-le (8 * m) (mapsFor m (setOf (numbersOf es))) (omega (arith, maps-long m (setOf (numbersOf es)) h))
+
+pub message-long : (t : Table) (v mti : List ℕ) (m : ℕ) (es : List Entry) → length mti ≡ 4 → m ≤ 3 → length (messageOf t v mti m es) ≡ 4 + 8 * m + length (bodyOf t v es)
+unfolding messageOf
+message-long t v mti m es four h =
+    omega (arith, length-append mti (bitmapsOf m es ++ bodyOf t v es), length-append (bitmapsOf m es) (bodyOf t v es), bitmaps-long m es h)
+
+-- a good head
+module _ (n : List ℕ) (good : headNumber n ≡ 0) where
+  tests : both (leb headSize (length n)) (both (eqb (getD n 0 0) headKind) (between 1 3 (getD n 5 0))) ≡ true
+  unfolding headNumber
+  tests = by-bool (both (leb headSize (length n)) (both (eqb (getD n 0 0) headKind) (between 1 3 (getD n 5 0)))) (λ y. y) (λ x. absurd (clash (rw x at good)))
+    where
+      clash : _≡_ {A = ℕ} 9 0 → ⊥
+      clash z = omega arith
+
+  pub head-whole : headSize ≤ length n
+  head-whole = leb-true headSize (length n) (both-left (leb headSize (length n)) (both (eqb (getD n 0 0) headKind) (between 1 3 (getD n 5 0))) tests)
+
+  pub count-three : countIn n ≤ 3
+  count-three = between-high 1 3 (getD n 5 0) (both-right (eqb (getD n 0 0) headKind) (between 1 3 (getD n 5 0)) (both-right (leb headSize (length n)) (both (eqb (getD n 0 0) headKind) (between 1 3 (getD n 5 0))) tests))
+
+  pub mti-four : length (mtiIn n) ≡ 4
+  mti-four = length-take-le 4 (drop 1 n) (omega (arith, length-drop 1 n, head-whole))
+
+-- a walk that comes to the end note
+pub walked-head : (p : Test) (v n : List ℕ) (x u : ℕ) → walked p v n ≡ ends x u → headNumber n ≡ 0
+unfolding walked
+walked-head p v n x u e = by-eq (headNumber n) 0 (λ z. z) (λ z. absurd (clash (rw (ne-eqb (headNumber n) 0 z) at e)))
+  where
+    clash : bad (plain (headNumber n)) ≡ ends x u → ⊥
+    clash h = let z : _≡_ {A = ℕ} 0 1 = cc in omega arith
+
+-- `write_ended`
+module _ (at u : ℕ) (bytes d : List ℕ) (k : ℕ) (sized : length bytes ≡ k) where
+  pub ended-differs : (u ≡ k → ⊥) → Refused (refusal endDiffers 0 at) ≡ answered at u bytes d
+  unfolding answered
+  ended-differs h = rw (sized, ne-eqb u k h)
+
+  pub differs-left : (u ≡ k → ⊥) → d ≡ laidOut u bytes d
+  unfolding laidOut
+  differs-left h = rw (sized, ne-eqb u k h)
+
+  module _ (same : u ≡ k) where
+    pub ended-short : length d < k → Refused (refusal outputTooShort 0 at) ≡ answered at u bytes d
+    unfolding answered
+    ended-short h = rw (sized, eq-eqb u k same, lt-leb k (length d) h)
+
+    pub short-left : length d < k → d ≡ laidOut u bytes d
+    unfolding laidOut
+    short-left h = rw (sized, eq-eqb u k same) (placed-short bytes d k sized h)
+
+    pub ended-written : k ≤ length d → Written k ≡ answered at u bytes d
+    unfolding answered
+    ended-written h = rw (sized, eq-eqb u k same, le-leb k (length d) h)
+
+    pub written-laid : (o : List ℕ) → k ≤ length d → o ≡ lay bytes d → o ≡ laidOut u bytes d
+    unfolding laidOut
+    written-laid o h e = rw (sized, eq-eqb u k same) (e ∙ sym (placed-fits bytes d k sized h))
+
+-- `write_by`
+module _ (t : Table) (r : Rule) (v n d : List ℕ) (w : Walked) (e : w ≡ walkedBy t r v n) where
+  abbrev p : Test
+  p = testOf t r
+
+  by-bad : (x : Ending) → w ≡ answerOf x → (q : Refusal) → w ≡ WalkRefused q → x ≡ bad q
+  unfolding answerOf
+  by-bad (bad y) a q h = let z : WalkRefused y ≡ WalkRefused q = sym a ∙ h in let i : y ≡ q = cc in ap bad i
+  by-bad (ends y u) a q h = let z : Ended y u ≡ WalkRefused q = sym a ∙ h in let i : _≡_ {A = ℕ} 0 1 = cc in absurd (omega arith)
+
+  by-ends : (x : Ending) → w ≡ answerOf x → (at u : ℕ) → w ≡ Ended at u → x ≡ ends at u
+  unfolding answerOf
+  by-ends (bad y) a at u h = let z : WalkRefused y ≡ Ended at u = sym a ∙ h in let i : _≡_ {A = ℕ} 0 1 = cc in absurd (omega arith)
+  by-ends (ends x y) a at u h = let z : Ended x y ≡ Ended at u = sym a ∙ h in let i : x ≡ at = cc in let k : y ≡ u = cc in rw (i, k)
+
+  as-walked : w ≡ answerOf (walked p v n)
+  unfolding walkedBy
+  as-walked = e
+
+  pub by-refused : (q : Refusal) → w ≡ WalkRefused q → Refused q ≡ answerBy p t v n d
+  unfolding answerBy answerOn
+  by-refused q h = rw (answerBy, by-bad (walked p v n) as-walked q h)
+
+  pub refused-left : (q : Refusal) → w ≡ WalkRefused q → d ≡ outputBy p t v n d
+  unfolding outputBy outputOn
+  refused-left q h = rw (outputBy, by-bad (walked p v n) as-walked q h)
+
+  module _ (weaker : (f : ℕ) (c : List ℕ) → p f c ≡ 0 → testOf t Clean f c ≡ 0) (at u : ℕ) (h : w ≡ Ended at u) where
+    pub is-ended : walked p v n ≡ ends at u
+    is-ended = by-ends (walked p v n) as-walked at u h
+
+    pub by-head : headNumber n ≡ 0
+    by-head = walked-head p v n at u is-ended
+
+    clean-entries : entriesIn (testOf t Clean) v n ≡ entriesIn p v n
+    clean-entries = weaker-entries p (testOf t Clean) weaker v n at u is-ended
+
+    any-entries : entriesIn any v n ≡ entriesIn p v n
+    any-entries = weaker-entries p any (λ f c z. refl) v n at u is-ended
+
+    pub by-entries : entriesIn any v n ≡ entriesIn (testOf t Clean) v n
+    by-entries = any-entries ∙ sym clean-entries
+
+    bytes-are : messageOf t v (mtiIn n) (countIn n) (entriesIn (testOf t Clean) v n) ≡ bytesBy p t v n
+    unfolding bytesBy
+    bytes-are = ap (messageOf t v (mtiIn n) (countIn n)) clean-entries
+
+    pub by-answered : (o : Output) → o ≡ answered at u (messageOf t v (mtiIn n) (countIn n) (entriesIn (testOf t Clean) v n)) d → o ≡ answerBy p t v n d
+    unfolding answerBy answerOn
+    by-answered o a = rw (answerBy, is-ended) (a ∙ ap (λ (b : List ℕ). answered at u b d) bytes-are)
+
+    pub by-laid : (o : List ℕ) → o ≡ laidOut u (messageOf t v (mtiIn n) (countIn n) (entriesIn (testOf t Clean) v n)) d → o ≡ outputBy p t v n d
+    unfolding outputBy outputOn
+    by-laid o a = rw (outputBy, is-ended) (a ∙ ap (λ (b : List ℕ). laidOut u b d) bytes-are)
+
+-- `write_clean`: what was written shows that the walk came to its end
+module _ (p : Test) (t : Table) (v n d : List ℕ) where
+  on-written : (x : Ending) (k : ℕ) → answerOn x (bytesBy p t v n) d ≡ Written k → (at : ℕ) × ((u : ℕ) × (x ≡ ends at u))
+  unfolding answerOn
+  on-written (bad r) k h = let i : _≡_ {A = ℕ} 0 1 = cc in absurd (omega arith)
+  on-written (ends at u) k h = (at, (u, refl))
+
+  pub written-ended : (k : ℕ) → answerBy p t v n d ≡ Written k → (at : ℕ) × ((u : ℕ) × (walked p v n ≡ ends at u))
+  unfolding answerBy
+  written-ended k h = on-written (walked p v n) k h
+
+  pub padded-refused : (r : Refusal) → answerBy p t v n d ≡ Refused r → noFields ≡ paddedBy p t v n d
+  unfolding paddedBy paddedOn
+  padded-refused r h = rw (paddedBy, h)
+
+  pub padded-written : (k : ℕ) (s : List ℕ) → answerBy p t v n d ≡ Written k → s ≡ setOf (shortIn t (entriesIn any v n)) → s ≡ paddedBy p t v n d
+  unfolding paddedBy paddedOn
+  padded-written k s h e =
+      let w = written-ended k h in
+      rw (paddedBy, h) (e ∙ ap (λ (es : List Entry). setOf (shortIn t es)) (weaker-entries p any (λ f c z. refl) v n (w .0) (w .1 .0) (w .1 .1)))
+
+-- `write_message`: the bytes of the bitmaps that were made
+pub maps-taken : (made bytes bits : List ℕ) (c m : ℕ) (es es′ : List Entry) → c ≡ m → m ≤ 3 → made ≡ bytes → bytes ≡ mapsFor (min c 3) bits
+    → bits ≡ setOf (numbersOf es′) → es′ ≡ es → take (8 * c - 0) made ≡ bitmapsOf m es
+unfolding bitmapsOf
+maps-taken made bytes bits c m es es′ hc h e1 e2 e3 e4 =
+    let k : min c 3 ≡ m = omega arith in
+    let z : 8 * c - 0 ≡ 8 * m = omega arith in
+    rw (e1, e2, e3, e4, k, z)
+
+pub made-long : (made bytes bits : List ℕ) (c : ℕ) → made ≡ bytes → bytes ≡ mapsFor (min c 3) bits → length made ≡ 24
+made-long made bytes bits c e1 e2 = ap length (e1 ∙ e2) ∙ maps-long (min c 3) bits (omega arith)
+
+pub message-parts : (t : Table) (v mti b : List ℕ) (m : ℕ) (es : List Entry) (d : List ℕ) → b ≡ bitmapsOf m es → lay ((mti ++ b) ++ bodyOf t v es) d ≡ lay (messageOf t v mti m es) d
+unfolding messageOf
+message-parts t v mti b m es d e = rw (e, append-assoc mti (bitmapsOf m es) (bodyOf t v es))
