@@ -1,3 +1,4 @@
+pub mod Language
 pub mod Reading
 pub mod Reports
 pub mod Sizes

@@ -25,7 +25,8 @@ const SPACE: u8 = b' ';
 const NEWLINE: u8 = b'\n';
 
 // Writes the lines for an input to the front of text, and answers how many bytes they take. Where text has not the room
-// of any report, it is left as it is and the answer is 0.
+// of any report, it is left as it is and the answer is 0. The last clause follows from the others, and lets a caller lend
+// `&text[..k]` with no proof of its own.
 pub fn report(input: &[u8], text: &mut [u8]) -> usize
     ensures answers { λ r. ⌜ r ≡ reportSize house (now (input .entry)) (now (text .entry)) ⌝ }
     ensures writes { λ _. ⌜ now (text .exit) ≡ reportText house (now (input .entry)) (now (text .entry)) ⌝ }
