@@ -1,15 +1,14 @@
 -- An input that is accepted: what is known of its reading, and the first two lines of its report, behind which the walk of the notes
 -- begins. Assumes nothing.
-use Prim.Native.Nat.{ℕ, _+_, _-_, _*_, _≤_, _<_}
+use Prim.Native.Nat.{ℕ, _+_, _-_, _≤_}
 use mathlib.Core.Path.{_≡_, refl, sym, ap, _∙_}
-use mathlib.Core.List.{List, [], _∷_, _++_, append-assoc}
+use mathlib.Core.List.{List, _++_, append-assoc}
 use native.Mathlib.Omega.{arith}
-use lib.ListN.{length, take, drop, length-append, length-drop, length-take, take-append-drop}
+use lib.ListN.{length, take, drop, length-append, length-take, take-append-drop}
 use lib.Seq.{take-at, drop-at, drop-drop, drop-append-add}
 use borrow.Rule.Slice.PartMut.{midOf, putMid}
 use Rattle.octets.specs.Lists.{lay}
 use Rattle.octets.specs.Texts.{text}
-use Rattle.octets.proofs.Lists.{lay-length}
 use Rattle.octets.proofs.Parts.{Written, lay-part}
 use Rattle.field_table.specs.House.{house}
 use Rattle.field_table.proofs.Rows.{house-small}
@@ -37,32 +36,38 @@ lay-over a b d =
     ∙ drop-drop (length b) (length a) d
     ∙ ap (λ (n : ℕ). drop n d) (sym (length-append a b)))
 
-module _ (s : List ℕ) (u m : ℕ) (short : length s ≤ inputMost) (read : readMessage house s ≡ Accepted u m) where
+-- An input that is not too long was accepted, and the text d has the room of any report.
+pub record Opened (s : List ℕ) (u m : ℕ) (d : List ℕ) : Type 0 where
+  pub short : length s ≤ inputMost
+  pub read : readMessage house s ≡ Accepted u m
+  pub room : textRoom ≤ length d
+
+module _ {s : List ℕ} {u m : ℕ} {d : List ℕ} (c : Opened s u m d) where
   abbrev reading : Reading
   reading = readingWith house s m
 
   begins : Begins house 3 s u reading
-  begins = accepts house s u m read
+  begins = accepts house s u m (c .read)
 
   three : m ≤ 3
   unfolding readingWith
   three = begins .is .few
 
-  pub mti-four : length (take 4 s) ≡ 4
+  mti-four : length (take 4 s) ≡ 4
   unfolding readingWith
   mti-four = begins .is .four
 
   pub input-four : 4 ≤ length s
   input-four = omega (arith, mti-four, length-take 4 s)
 
-  pub used-most : u ≤ inputMost
-  used-most = omega (arith, begins .long, ap length (begins .joined), length-append (begins .message) (begins .after))
+  used-most : u ≤ inputMost
+  used-most = omega (arith, begins .long, ap length (begins .joined), length-append (begins .message) (begins .after), c .short)
 
-  entries-are-fit : AllFit (reading .entries)
-  entries-are-fit = entries-fit house house-small 3 (begins .message) reading (begins .is) (begins .is .few)
+  fit : AllFit (reading .entries)
+  fit = entries-fit house house-small 3 (begins .message) reading (begins .is) (begins .is .few)
 
   pub lines-room : length (readingLines reading u) ≤ textRoom
-  lines-room = reading-most reading u (begins .is .four) (begins .is .few) (entries-few house s m three) entries-are-fit used-most
+  lines-room = reading-most reading u (begins .is .four) (begins .is .few) (entries-few house s m three) fit used-most
 
   abbrev mti : List ℕ
   mti = mtiLine (take 4 s)
@@ -80,65 +85,91 @@ module _ (s : List ℕ) (u m : ℕ) (short : length s ≤ inputMost) (read : rea
   lines-long : length mti + (length maps + length rest) ≡ length (readingLines reading u)
   lines-long = omega (arith, ap length lines-are, length-append (mti ++ maps) rest, length-append mti maps)
 
-  module _ (d : List ℕ) (room : textRoom ≤ length d) where
-    pub mti-room : length mti ≤ length d
-    mti-room = omega (arith, lines-room, lines-long)
+  pub mti-fits : length mti ≤ length d
+  mti-fits = omega (arith, lines-room, lines-long, c .room)
 
-    module _ (o : List ℕ) (n : ℕ) (hn : n ≡ length mti) (ho : o ≡ lay mti d) where
-      pub mti-size : length o ≡ length d
-      mti-size = as-long mti d o ho mti-room
+-- o is the text once the line of the MTI is written, in n bytes
+pub record Begun (s : List ℕ) (u m : ℕ) (d o : List ℕ) (n : ℕ) : Type 0 where
+  pub opened : Opened s u m d
+  pub count : n ≡ length (mtiLine (take 4 s))
+  pub laid : o ≡ lay (mtiLine (take 4 s)) d
 
-      pub maps-room : length maps ≤ length (midOf n (length o - n) o)
-      maps-room = omega (arith, lines-room, lines-long, mti-size, part-size n o)
+module _ {s : List ℕ} {u m : ℕ} {d o : List ℕ} {n : ℕ} (c : Begun s u m d o n) where
+  pub begun-room : n + length (maps (c .opened)) ≤ textRoom
+  begun-room = omega (arith, lines-room (c .opened), lines-long (c .opened), c .count)
 
-      module _ (f : List ℕ) (k : ℕ) (hk : k ≡ length maps) (hf : f ≡ lay maps (midOf n (length o - n) o)) where
-        abbrev two : List ℕ
-        two = putMid n (length o - n) o f
+  pub begun-size : length o ≡ length d
+  begun-size = as-long (mti (c .opened)) d o (c .laid) (mti-fits (c .opened))
 
-        head-long′ : length (mti ++ maps) ≡ n + k
-        head-long′ = omega (arith, length-append mti maps)
+  pub maps-fits : length (maps (c .opened)) ≤ length (midOf n (length o - n) o)
+  maps-fits = omega (arith, begun-room, c .opened .room, begun-size, part-size n o)
 
-        head-laid : two ≡ lay (mti ++ maps) d
-        head-laid = lay-part mti maps d o f n ho (sym hn) hf
+-- f is the rest behind it once the line of the bitmaps is written there, in k bytes
+pub record Headed (s : List ℕ) (u m : ℕ) (d o : List ℕ) (n : ℕ) (f : List ℕ) (k : ℕ) : Type 0 where
+  pub begun : Begun s u m d o n
+  pub count : k ≡ length (named (text "bitmaps") m newline)
+  pub laid : f ≡ lay (named (text "bitmaps") m newline) (midOf n (length o - n) o)
 
-        pub head-size : length two ≡ length d
-        head-size = as-long (mti ++ maps) d two head-laid (omega (arith, lines-room, lines-long, head-long′))
+module _ {s : List ℕ} {u m : ℕ} {d o : List ℕ} {n : ℕ} {f : List ℕ} {k : ℕ} (c : Headed s u m d o n f k) where
+  abbrev given : Opened s u m d
+  given = c .begun .opened
 
-        pub head-over : lay (readingLines reading u) two ≡ lay (readingLines reading u) d
-        head-over =
-            ap (λ (l : List ℕ). lay (readingLines reading u) l) head-laid
-            ∙ ap (λ (l : List ℕ). lay l (lay (mti ++ maps) d)) lines-are
-            ∙ lay-over (mti ++ maps) rest d
-            ∙ ap (λ (l : List ℕ). lay l d) (sym lines-are)
+  abbrev front : List ℕ
+  front = mti given ++ maps given
 
-        front-is : take (n + k) two ≡ mti ++ maps
-        unfolding lay
-        front-is = ap (take (n + k)) head-laid ∙ take-at (mti ++ maps) _ (n + k) head-long′
+  abbrev two : List ℕ
+  two = putMid n (length o - n) o f
 
-        head-written : Written (readingLines reading u) two two rest (n + k)
-        head-written =
-            record {
-              front = ap (λ (l : List ℕ). l ++ rest) front-is ∙ sym lines-are;
-              back = refl;
-              size = refl;
-              within = omega (arith, lines-room, lines-long, head-size);
-            }
+  front-long : length front ≡ n + k
+  front-long = omega (arith, length-append (mti given) (maps given), c .begun .count, c .count)
 
-        module _ (notes : List ℕ) (noted : take (length (notesOf reading u)) notes ≡ notesOf reading u) where
-          after : List ℕ
-          after = drop (length (notesOf reading u)) notes
+  front-laid : two ≡ lay front d
+  front-laid = lay-part (mti given) (maps given) d o f n (c .begun .laid) (sym (c .begun .count)) (c .laid)
 
-          notes-are : notes ≡ headNote (take 4 s) m ++ (fieldNotes (reading .entries) ++ (endNote u ++ after))
-          unfolding notesOf readingWith after
-          notes-are =
-              sym (take-append-drop (length (notesOf reading u)) notes) ∙ ap (λ (l : List ℕ). l ++ after) noted ∙ simp append-assoc
+  pub headed-room : n + k ≤ textRoom
+  headed-room = omega (arith, begun-room (c .begun), c .count)
 
-          pub walked-first : Walked (readingLines reading u) two notes u two 6 (n + k)
-          walked-first =
-              record {
-                left = reading .entries;
-                after = after;
-                fit = entries-are-fit;
-                rest = ap (drop 6) notes-are ∙ drop-at (headNote (take 4 s) m) _ 6 (omega (arith, head-long (take 4 s) m, mti-four));
-                written = head-written;
-              }
+  pub headed-size : length two ≡ length d
+  headed-size = as-long front d two front-laid (omega (arith, headed-room, front-long, given .room))
+
+  -- what is laid over the text from here on is laid over it as it was
+  pub headed-over : lay (readingLines (reading given) u) two ≡ lay (readingLines (reading given) u) d
+  headed-over =
+      ap (λ (l : List ℕ). lay (readingLines (reading given) u) l) front-laid
+      ∙ ap (λ (l : List ℕ). lay l (lay front d)) (lines-are given)
+      ∙ lay-over front (rest given) d
+      ∙ ap (λ (l : List ℕ). lay l d) (sym (lines-are given))
+
+  front-is : take (n + k) two ≡ front
+  unfolding lay
+  front-is = ap (take (n + k)) front-laid ∙ take-at front _ (n + k) front-long
+
+  front-written : Written (readingLines (reading given) u) two two (rest given) (n + k)
+  front-written =
+      record {
+        front = ap (λ (l : List ℕ). l ++ rest given) front-is ∙ sym (lines-are given);
+        back = refl;
+        size = refl;
+        within = omega (arith, headed-room, headed-size, given .room);
+      }
+
+  module _ (notes : List ℕ) (noted : take (length (notesOf (reading given) u)) notes ≡ notesOf (reading given) u) where
+    after : List ℕ
+    after = drop (length (notesOf (reading given) u)) notes
+
+    notes-are : notes ≡ headNote (take 4 s) m ++ (fieldNotes (reading given .entries) ++ (endNote u ++ after))
+    unfolding notesOf readingWith after
+    notes-are =
+        sym (take-append-drop (length (notesOf (reading given) u)) notes) ∙ ap (λ (l : List ℕ). l ++ after) noted ∙ simp append-assoc
+
+    pub walked-first : Walked (readingLines (reading given) u) two notes u two 6 (n + k)
+    walked-first =
+        record {
+          small = omega (arith, used-most given);
+          room = omega (arith, lines-room given, headed-size, given .room);
+          left = reading given .entries;
+          after = after;
+          fit = fit given;
+          rest = ap (drop 6) notes-are ∙ drop-at (headNote (take 4 s) m) _ 6 (omega (arith, head-long (take 4 s) m, mti-four given));
+          written = front-written;
+        }

@@ -1,6 +1,6 @@
 -- How long the lines are: any report fits in its room. Assumes nothing.
-use Prim.Native.Nat.{ℕ, zero, suc, _+_, _*_, _^_, _≤_, _<_}
-use mathlib.Core.Path.{_≡_, refl, sym, ap, _∙_}
+use Prim.Native.Nat.{ℕ, suc, _+_, _*_, _^_, _≤_, _<_}
+use mathlib.Core.Path.{_≡_}
 use mathlib.Core.List.{List, [], _∷_, _++_}
 use native.Mathlib.Omega.{arith}
 use lib.ListN.{length, length-append}
@@ -9,7 +9,7 @@ use Rattle.octets.proofs.Numerals.{numeral-most}
 use Rattle.refusal.specs.declared.Refusal.{Refusal}
 use Rattle.message_language.specs.Language.{Entry, Reading}
 use Rattle.message_notes.proofs.Spelling.{Fits, AllFit}
-use Rattle.till_lines.specs.Lines.{space, newline, named, tripled, mtiLine, fieldLine, fieldLines, readingLines, refusedLine, inputMost, textRoom}
+use Rattle.till_lines.specs.Lines.{space, newline, named, mtiLine, fieldLine, fieldLines, readingLines, refusedLine, inputMost, textRoom}
 use Rattle.till_lines.proofs.Writing.{named-long, tripled-long, mti-line-long}
 
 named-most : (w : List ℕ) (n e k : ℕ) → n < 10 ^ suc k → length (named w n e) ≤ length w + (suc k + 2)

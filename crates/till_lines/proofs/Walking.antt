@@ -1,12 +1,12 @@
 -- Walking the notes of a message and writing a line for each field, on plain values: d is the text where the walk begins. Assumes nothing.
-use Prim.Native.Nat.{ℕ, zero, suc, _+_, _-_, _*_, _≤_, _<_}
+use Prim.Native.Nat.{ℕ, _+_, _-_, _≤_, _<_}
 use mathlib.Core.Path.{_≡_, refl, sym, ap, _∙_}
 use mathlib.Core.List.{List, [], _∷_, _++_, append-assoc, append-nil}
 use native.Mathlib.Omega.{arith}
 use lib.ListN.{length, take, drop, length-append, length-drop}
 use lib.Seq.{drop-at, drop-drop}
 use borrow.Rule.Slice.PartMut.{midOf, putMid}
-use Rattle.octets.specs.Lists.{lay, placed}
+use Rattle.octets.specs.Lists.{lay}
 use Rattle.octets.specs.Texts.{text}
 use Rattle.octets.proofs.Lists.{placed-fits}
 use Rattle.octets.proofs.Parts.{to-end, Written, written-room, written-more, written-end}
@@ -15,7 +15,7 @@ use Rattle.message_notes.specs.declared.Note.{Note}
 use Rattle.message_notes.specs.declared.Note.the-variants.{Field, End, Malformed}
 use Rattle.message_notes.specs.Notes.{fieldNote, fieldNotes, endNote, noteAt}
 use Rattle.message_notes.proofs.Sizes.{field-long, end-long}
-use Rattle.message_notes.proofs.Spelling.{Fits, AllFit}
+use Rattle.message_notes.proofs.Spelling.{AllFit}
 use Rattle.message_notes.proofs.Reading.{field-back, end-back}
 use Rattle.till_lines.specs.Lines.{newline, named, fieldLine, fieldLines}
 use Rattle.till_lines.proofs.Writing.{part-size}
@@ -74,100 +74,103 @@ module _ (u : ℕ) (small : u < 4294967296) (after : List ℕ) where
       let z : _≡_ {A = ℕ} 0 1 = cc in
       omega arith
 
-module _ (whole d notes : List ℕ) (u : ℕ) where
-  -- The notes from `at` on are those of the fields that are left and the end; what is written and their lines make the whole.
-  pub record Walked (o : List ℕ) (at w : ℕ) : Type 0 where
-    pub left : List Entry
-    pub after : List ℕ
-    pub fit : AllFit left
-    pub rest : drop at notes ≡ fieldNotes left ++ (endNote u ++ after)
-    pub written : Written whole d o (fieldLines left ++ usedLine u) w
+-- The notes from `at` on are those of the fields that are left and the end; what is written and their lines make the whole.
+pub record Walked (whole d notes : List ℕ) (u : ℕ) (o : List ℕ) (at w : ℕ) : Type 0 where
+  pub small : u < 4294967296
+  pub room : length whole ≤ length d
+  pub left : List Entry
+  pub after : List ℕ
+  pub fit : AllFit left
+  pub rest : drop at notes ≡ fieldNotes left ++ (endNote u ++ after)
+  pub written : Written whole d o (fieldLines left ++ usedLine u) w
 
-  module _ (small : u < 4294967296) (room : length whole ≤ length d) (o : List ℕ) (at w : ℕ) (c : Walked o at w) where
-    pub walked-inside : at + 5 ≤ length notes
-    walked-inside =
-        let l = length-append (fieldNotes (c .left)) (endNote u ++ c .after) in
-        let k = length-append (endNote u) (c .after) in
-        omega (arith, ap length (c .rest), length-drop at notes, end-long u)
+module _ {whole d notes : List ℕ} {u : ℕ} {o : List ℕ} {at w : ℕ} (c : Walked whole d notes u o at w) where
+  pub walked-inside : at + 5 ≤ length notes
+  walked-inside =
+      let l = length-append (fieldNotes (c .left)) (endNote u ++ c .after) in
+      let k = length-append (endNote u) (c .after) in
+      omega (arith, ap length (c .rest), length-drop at notes, end-long u)
 
-    line-room : (r rest : List ℕ) → fieldLines (c .left) ++ usedLine u ≡ r ++ rest → length r ≤ length (midOf w (length o - w) o)
-    line-room r rest h =
-        omega (arith, written-room whole d o _ w (c .written), ap length h, length-append r rest, c .written .size, part-size w o)
+  line-room : (r rest : List ℕ) → fieldLines (c .left) ++ usedLine u ≡ r ++ rest → length r ≤ length (midOf w (length o - w) o)
+  line-room r rest h =
+      omega (arith, written-room whole d o _ w (c .written), ap length h, length-append r rest, c .written .size, c .room, part-size w o)
 
-    line-written : (r rest g : List ℕ) (k : ℕ) → fieldLines (c .left) ++ usedLine u ≡ r ++ rest → k ≡ length r → g ≡ lay r (midOf w (length o - w) o)
-        → Written whole d (putMid w (length o - w) o g) rest (w + k)
-    line-written r rest g k h hk hg =
-        let l = line-room r rest h in
-        written-more whole d o _ r rest g w k (c .written) h (sym hk) (omega (arith, part-size w o, c .written .within))
-        (hg ∙ sym (placed-fits r (midOf w (length o - w) o) (length r) refl l))
+  line-written : (r rest g : List ℕ) (k : ℕ) → fieldLines (c .left) ++ usedLine u ≡ r ++ rest → k ≡ length r → g ≡ lay r (midOf w (length o - w) o)
+      → Written whole d (putMid w (length o - w) o g) rest (w + k)
+  line-written r rest g k h hk hg =
+      let l = line-room r rest h in
+      written-more whole d o _ r rest g w k (c .written) h (sym hk) (omega (arith, part-size w o, c .written .within))
+      (hg ∙ sym (placed-fits r (midOf w (length o - w) o) (length r) refl l))
 
-    module _ (f p n : ℕ) (note : noteAt (drop at notes) ≡ Field f p n) where
-      here : First f p n (c .left)
-      here = field-first u small (c .after) (c .left) (c .fit) f p n (ap noteAt (sym (c .rest)) ∙ note)
+  module _ {f p n : ℕ} (note : noteAt (drop at notes) ≡ Field f p n) where
+    here : First f p n (c .left)
+    here = field-first u (c .small) (c .after) (c .left) (c .fit) f p n (ap noteAt (sym (c .rest)) ∙ note)
 
-      lines-here : fieldLines (c .left) ++ usedLine u ≡ fieldLine (entry f p n) ++ (fieldLines (here .others) ++ usedLine u)
-      unfolding fieldLines
-      lines-here =
-          ap (λ (es : List Entry). fieldLines es ++ usedLine u) (here .is)
-          ∙ append-assoc (fieldLine (entry f p n)) (fieldLines (here .others)) (usedLine u)
+    lines-here : fieldLines (c .left) ++ usedLine u ≡ fieldLine (entry f p n) ++ (fieldLines (here .others) ++ usedLine u)
+    unfolding fieldLines
+    lines-here =
+        ap (λ (es : List Entry). fieldLines es ++ usedLine u) (here .is)
+        ∙ append-assoc (fieldLine (entry f p n)) (fieldLines (here .others)) (usedLine u)
 
-      notes-here : drop at notes ≡ fieldNote (entry f p n) ++ (fieldNotes (here .others) ++ (endNote u ++ c .after))
-      unfolding fieldNotes
-      notes-here =
-          c .rest ∙ ap (λ (es : List Entry). fieldNotes es ++ (endNote u ++ c .after)) (here .is)
-          ∙ append-assoc (fieldNote (entry f p n)) (fieldNotes (here .others)) (endNote u ++ c .after)
+    notes-here : drop at notes ≡ fieldNote (entry f p n) ++ (fieldNotes (here .others) ++ (endNote u ++ c .after))
+    unfolding fieldNotes
+    notes-here =
+        c .rest ∙ ap (λ (es : List Entry). fieldNotes es ++ (endNote u ++ c .after)) (here .is)
+        ∙ append-assoc (fieldNote (entry f p n)) (fieldNotes (here .others)) (endNote u ++ c .after)
 
-      fit-here : AllFit (entry f p n ∷ here .others)
-      fit-here = rw (here .is) at (c .fit)
+    fit-here : AllFit (entry f p n ∷ here .others)
+    fit-here = rw (here .is) at (c .fit)
 
-      pub field-room : length (fieldLine (entry f p n)) ≤ length (midOf w (length o - w) o)
-      field-room = line-room (fieldLine (entry f p n)) (fieldLines (here .others) ++ usedLine u) lines-here
+    pub field-room : length (fieldLine (entry f p n)) ≤ length (midOf w (length o - w) o)
+    field-room = line-room (fieldLine (entry f p n)) (fieldLines (here .others) ++ usedLine u) lines-here
 
-      pub field-within : w + length (fieldLine (entry f p n)) ≤ length whole
-      field-within =
-          omega (
-            arith,
-            written-room whole d o _ w (c .written),
-            ap length lines-here,
-            length-append (fieldLine (entry f p n)) (fieldLines (here .others) ++ usedLine u),
-          )
+    pub field-within : w + length (fieldLine (entry f p n)) ≤ length whole
+    field-within =
+        omega (
+          arith,
+          written-room whole d o _ w (c .written),
+          ap length lines-here,
+          length-append (fieldLine (entry f p n)) (fieldLines (here .others) ++ usedLine u),
+        )
 
-      pub field-inside : at + 8 ≤ length notes
-      field-inside =
-          omega (
-            arith,
-            ap length notes-here,
-            length-drop at notes,
-            length-append (fieldNote (entry f p n)) (fieldNotes (here .others) ++ (endNote u ++ c .after)),
-            field-long (entry f p n),
-          )
+    pub field-inside : at + 8 ≤ length notes
+    field-inside =
+        omega (
+          arith,
+          ap length notes-here,
+          length-drop at notes,
+          length-append (fieldNote (entry f p n)) (fieldNotes (here .others) ++ (endNote u ++ c .after)),
+          field-long (entry f p n),
+        )
 
-      pub walked-field : (g : List ℕ) (k : ℕ) → k ≡ length (fieldLine (entry f p n)) → g ≡ lay (fieldLine (entry f p n)) (midOf w (length o - w) o)
-          → Walked (putMid w (length o - w) o g) (at + 8) (w + k)
-      unfolding AllFit
-      walked-field g k hk hg =
-          record {
-            left = here .others;
-            after = c .after;
-            fit = fit-here .1;
-            rest =
-                sym (drop-drop 8 at notes) ∙ ap (drop 8) notes-here
-                ∙ drop-at (fieldNote (entry f p n)) (fieldNotes (here .others) ++ (endNote u ++ c .after)) 8 (field-long (entry f p n));
-            written = line-written (fieldLine (entry f p n)) (fieldLines (here .others) ++ usedLine u) g k lines-here hk hg;
-          }
+    pub walked-field : {g : List ℕ} {k : ℕ} → k ≡ length (fieldLine (entry f p n)) → g ≡ lay (fieldLine (entry f p n)) (midOf w (length o - w) o)
+        → Walked whole d notes u (putMid w (length o - w) o g) (at + 8) (w + k)
+    unfolding AllFit
+    walked-field {g} {k} hk hg =
+        record {
+          small = c .small;
+          room = c .room;
+          left = here .others;
+          after = c .after;
+          fit = fit-here .1;
+          rest =
+              sym (drop-drop 8 at notes) ∙ ap (drop 8) notes-here
+              ∙ drop-at (fieldNote (entry f p n)) (fieldNotes (here .others) ++ (endNote u ++ c .after)) 8 (field-long (entry f p n));
+          written = line-written (fieldLine (entry f p n)) (fieldLines (here .others) ++ usedLine u) g k lines-here hk hg;
+        }
 
-    module _ (v : ℕ) (note : noteAt (drop at notes) ≡ End v) where
-      last-line : fieldLines (c .left) ++ usedLine u ≡ usedLine u ++ []
-      unfolding fieldLines
-      last-line =
-          rw (end-last u small (c .after) (c .left) (c .fit) v (ap noteAt (sym (c .rest)) ∙ note)) (sym (append-nil (usedLine u)))
+  module _ {v : ℕ} (note : noteAt (drop at notes) ≡ End v) where
+    last-line : fieldLines (c .left) ++ usedLine u ≡ usedLine u ++ []
+    unfolding fieldLines
+    last-line =
+        rw (end-last u (c .small) (c .after) (c .left) (c .fit) v (ap noteAt (sym (c .rest)) ∙ note)) (sym (append-nil (usedLine u)))
 
-      pub end-room : length (usedLine u) ≤ length (midOf w (length o - w) o)
-      end-room = line-room (usedLine u) [] last-line
+    pub end-room : length (usedLine u) ≤ length (midOf w (length o - w) o)
+    end-room = line-room (usedLine u) [] last-line
 
-      pub walked-end : (g : List ℕ) (k : ℕ) → k ≡ length (usedLine u) → g ≡ lay (usedLine u) (midOf w (length o - w) o)
-          → (w + k ≡ length whole) × (putMid w (length o - w) o g ≡ lay whole d)
-      walked-end g k hk hg = written-end whole d _ [] (w + k) (line-written (usedLine u) [] g k last-line hk hg) refl
+    pub walked-end : {g : List ℕ} {k : ℕ} → k ≡ length (usedLine u) → g ≡ lay (usedLine u) (midOf w (length o - w) o)
+        → (w + k ≡ length whole) × (putMid w (length o - w) o g ≡ lay whole d)
+    walked-end {g} {k} hk hg = written-end whole d _ [] (w + k) (line-written (usedLine u) [] g k last-line hk hg) refl
 
-    pub never-malformed : noteAt (drop at notes) ≡ Malformed → ⊥
-    never-malformed note = none-malformed u small (c .after) (c .left) (c .fit) (ap noteAt (sym (c .rest)) ∙ note)
+  pub never-malformed : noteAt (drop at notes) ≡ Malformed → ⊥
+  never-malformed note = none-malformed u (c .small) (c .after) (c .left) (c .fit) (ap noteAt (sym (c .rest)) ∙ note)

@@ -1,7 +1,7 @@
 -- Three of 01's worked messages at the till, computed. Assumes nothing.
 use Prim.Native.Nat.{ℕ}
 use mathlib.Core.Path.{_≡_, refl}
-use mathlib.Core.List.{List, [], _∷_, _++_}
+use mathlib.Core.List.{List, _∷_, _++_}
 use lib.ListN.{replicate}
 use Rattle.octets.specs.Lists.{between}
 use Rattle.octets.specs.Numbers.{digits, number}

@@ -1,11 +1,19 @@
 -- The word is laid, then the MTI and the end behind it.
 use Prim.Native.Nat.{_-_}
-use Rattle.till_lines.specs.Lines.{mtiLine}
-use Rattle.till_lines.proofs.Writing.{mti-line-long, as-long, mti-word-size, mti-size, mti-ended}
+use Rattle.till_lines.proofs.Writing.{MtiBegun, as-long, mti-line-long, mti-room, mti-begun-size, mti-put-size, mti-ended}
 use borrow.Author.Needs.{needs}
 use native.Mathlib.Omega.{arith}
 use Rattle.till_lines.proofs.put_mti.Statement.{statement}
 use Rattle.till_lines.proofs.put_mti.Tie as tie
+
+abbrev start : tie.After-slice-known2 → tie.Start
+start c = c .before .before .before .before .before .before .before
+
+begun-at : (c : tie.After-slice-known2) → MtiBegun (start c .args .mti .now) (start c .args .out .now) (c .before .before .put .last .1 .0)
+begun-at c = record { room = start c .pre; word = c .before .before .put .ensures }
+
+abbrev back : tie.After-slice-known3 → tie.After-slice-known2
+back c = c .before .before .before .before
 
 slice-aggregate-put : tie.Need-slice-aggregate-put
 slice-aggregate-put c = search needs
@@ -14,24 +22,10 @@ put-requires : tie.Need-put-requires
 put-requires c κs = search needs
 
 sub-put : tie.Need-sub-put
-sub-put c =
-    let k = c in
-    let s = k .before .before .before .before .before .before .before in
-    let mti = s .args .mti .now in
-    let d = s .args .out .now in
-    let l = mti-line-long mti in
-    let x = k .before .before .put .ensures in
-    omega (arith, mti-word-size mti d (s .pre) _ x)
+sub-put c = omega (arith, mti-begun-size (begun-at c), mti-room (begun-at c))
 
 part-put-start : tie.Need-part-put-start
-part-put-start c =
-    let k = c in
-    let s = k .before .before .before .before .before .before .before in
-    let mti = s .args .mti .now in
-    let d = s .args .out .now in
-    let l = mti-line-long mti in
-    let x = k .before .before .put .ensures in
-    omega (arith, mti-word-size mti d (s .pre) _ x)
+part-put-start c = omega (arith, mti-begun-size (begun-at c), mti-room (begun-at c))
 
 part-put-end : tie.Need-part-put-end
 part-put-end c = search needs
@@ -43,43 +37,16 @@ add-end : tie.Need-add-end
 add-end c = search needs
 
 slice-write-out : tie.Need-slice-write-out
-slice-write-out c =
-    let q = c in
-    let k = q .before .before .before .before in
-    let s = k .before .before .before .before .before .before .before in
-    let mti = s .args .mti .now in
-    let d = s .args .out .now in
-    let l = mti-line-long mti in
-    let x = k .before .before .put .ensures in
-    let f = q .before .before .put2 .ensures in
-    omega (arith, mti-size mti d (s .pre) _ x _ f)
+slice-write-out c = omega (arith, mti-put-size (begun-at (back c)) (c .before .before .put2 .ensures), mti-room (begun-at (back c)))
 
 add-result : tie.Need-add-result
 add-result c = search needs
 
 same-length : tie.Need-same-length
-same-length c =
-    let q = c in
-    let k = q .before .before .before .before in
-    let s = k .before .before .before .before .before .before .before in
-    let mti = s .args .mti .now in
-    let d = s .args .out .now in
-    let l = mti-line-long mti in
-    let x = k .before .before .put .ensures in
-    let f = q .before .before .put2 .ensures in
-    as-long (mtiLine mti) d _ (mti-ended mti d (s .pre) _ x _ f) (s .pre)
+same-length c = as-long _ _ _ (mti-ended (begun-at (back c)) (c .before .before .put2 .ensures)) (start (back c) .pre)
 
 returns : tie.Need-returns
-returns c =
-    let q = c in
-    let k = q .before .before .before .before in
-    let s = k .before .before .before .before .before .before .before in
-    let mti = s .args .mti .now in
-    let d = s .args .out .now in
-    let l = mti-line-long mti in
-    let x = k .before .before .put .ensures in
-    let f = q .before .before .put2 .ensures in
-    (omega arith, mti-ended mti d (s .pre) _ x _ f)
+returns c = (omega (arith, mti-line-long (start (back c) .args .mti .now)), mti-ended (begun-at (back c)) (c .before .before .put2 .ensures))
 
 pub put-mti-spec : {M : Type 1} → statement M
 put-mti-spec =

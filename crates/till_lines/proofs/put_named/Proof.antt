@@ -1,55 +1,43 @@
 -- The word is laid, then the space, the number and the end, each behind the last.
-use mathlib.Core.Path.{ap}
 use Prim.Native.Nat.{_-_}
-use lib.ListN.{length}
-use Rattle.till_lines.specs.Lines.{named}
-use Rattle.till_lines.proofs.Writing.{named-long, space-laid, space-size, number-size, end-laid, as-long, word-laid}
+use Rattle.till_lines.proofs.Writing.{Worded, Numbered, as-long, named-room, worded-size, spaced-size, numbered-room, numbered-size, end-laid}
 use borrow.Author.Needs.{needs}
 use native.Mathlib.Omega.{arith}
 use Rattle.till_lines.proofs.put_named.Statement.{statement}
 use Rattle.till_lines.proofs.put_named.Tie as tie
 
+abbrev start : tie.After-slice-known2 → tie.Start
+start c = c .before .before .before .before .before .before
+
+worded-at : (c : tie.After-slice-known2) → Worded (start c .args .word .now) (start c .args .n) (start c .args .end) (start c .args .out .now) (c .before .before .put .last .1 .0)
+worded-at c = record { room = start c .pre; word = c .before .before .put .ensures }
+
+abbrev back : tie.After-slice-known3 → tie.After-slice-known2
+back c = c .before .before .before .before
+
+numbered-at :
+    (c : tie.After-slice-known3) →
+    Numbered (start (back c) .args .word .now) (start (back c) .args .n) (start (back c) .args .end) (start (back c) .args .out .now)
+    (back c .before .before .put .last .1 .0)
+    (c .before .before .put-numeral .last .1 .0)
+    (c .before .before .put-numeral .result)
+numbered-at c =
+    record { worded = worded-at (back c); count = c .before .before .put-numeral .ensures .0; number = c .before .before .put-numeral .ensures .1 }
+
 put-requires : tie.Need-put-requires
 put-requires c κs = search needs
 
 slice-write-out : tie.Need-slice-write-out
-slice-write-out c =
-    let k = c in
-    let s = k .before .before .before .before .before .before in
-    let a = s .args in
-    let w = a .word .now in
-    let d = a .out .now in
-    let n = a .n in
-    let l = named-long w n (a .end) in
-    let x = k .before .before .put .ensures in
-    omega (arith, ap length (word-laid w n (a .end) d (s .pre) _ x), as-long w d _ (word-laid w n (a .end) d (s .pre) _ x) (omega arith))
+slice-write-out c = omega (arith, worded-size (worded-at c), named-room (worded-at c))
 
 add-start : tie.Need-add-start
 add-start c = search needs
 
 sub-put-numeral : tie.Need-sub-put-numeral
-sub-put-numeral c =
-    let k = c in
-    let s = k .before .before .before .before .before .before in
-    let a = s .args in
-    let w = a .word .now in
-    let d = a .out .now in
-    let n = a .n in
-    let l = named-long w n (a .end) in
-    let x = k .before .before .put .ensures in
-    omega (arith, space-size w n (a .end) d (s .pre) _ x)
+sub-put-numeral c = omega (arith, spaced-size (worded-at c), named-room (worded-at c))
 
 part-put-numeral-start : tie.Need-part-put-numeral-start
-part-put-numeral-start c =
-    let k = c in
-    let s = k .before .before .before .before .before .before in
-    let a = s .args in
-    let w = a .word .now in
-    let d = a .out .now in
-    let n = a .n in
-    let l = named-long w n (a .end) in
-    let x = k .before .before .put .ensures in
-    omega (arith, space-size w n (a .end) d (s .pre) _ x)
+part-put-numeral-start c = omega (arith, spaced-size (worded-at c), named-room (worded-at c))
 
 part-put-numeral-end : tie.Need-part-put-numeral-end
 part-put-numeral-end c = search needs
@@ -58,84 +46,19 @@ put-numeral-requires : tie.Need-put-numeral-requires
 put-numeral-requires c κs = search needs
 
 add-stop : tie.Need-add-stop
-add-stop c =
-    let q = c in
-    let k = q .before .before .before .before in
-    let s = k .before .before .before .before .before .before in
-    let a = s .args in
-    let w = a .word .now in
-    let d = a .out .now in
-    let n = a .n in
-    let l = named-long w n (a .end) in
-    let x = k .before .before .put .ensures in
-    let y = space-laid w n (a .end) d (s .pre) _ x in
-    let f = q .before .before .put-numeral .ensures in
-    let z = number-size w n (a .end) d (s .pre) _ _ y (f .1) in
-    omega (arith, f .0)
+add-stop c = omega (arith, numbered-room (numbered-at c), start (back c) .pre)
 
 slice-write-out-2 : tie.Need-slice-write-out-2
-slice-write-out-2 c =
-    let q = c in
-    let k = q .before .before .before .before in
-    let s = k .before .before .before .before .before .before in
-    let a = s .args in
-    let w = a .word .now in
-    let d = a .out .now in
-    let n = a .n in
-    let l = named-long w n (a .end) in
-    let x = k .before .before .put .ensures in
-    let y = space-laid w n (a .end) d (s .pre) _ x in
-    let f = q .before .before .put-numeral .ensures in
-    let z = number-size w n (a .end) d (s .pre) _ _ y (f .1) in
-    omega (arith, f .0)
+slice-write-out-2 c = omega (arith, numbered-size (numbered-at c), numbered-room (numbered-at c), start (back c) .pre)
 
 add-result : tie.Need-add-result
-add-result c =
-    let q = c in
-    let k = q .before .before .before .before in
-    let s = k .before .before .before .before .before .before in
-    let a = s .args in
-    let w = a .word .now in
-    let d = a .out .now in
-    let n = a .n in
-    let l = named-long w n (a .end) in
-    let x = k .before .before .put .ensures in
-    let y = space-laid w n (a .end) d (s .pre) _ x in
-    let f = q .before .before .put-numeral .ensures in
-    let z = number-size w n (a .end) d (s .pre) _ _ y (f .1) in
-    omega (arith, f .0)
+add-result c = omega (arith, numbered-room (numbered-at c), start (back c) .pre)
 
 same-length : tie.Need-same-length
-same-length c =
-    let q = c in
-    let k = q .before .before .before .before in
-    let s = k .before .before .before .before .before .before in
-    let a = s .args in
-    let w = a .word .now in
-    let d = a .out .now in
-    let n = a .n in
-    let l = named-long w n (a .end) in
-    let x = k .before .before .put .ensures in
-    let y = space-laid w n (a .end) d (s .pre) _ x in
-    let f = q .before .before .put-numeral .ensures in
-    let z = number-size w n (a .end) d (s .pre) _ _ y (f .1) in
-    as-long (named w n (a .end)) d _ (end-laid w n (a .end) d (s .pre) _ _ y (f .1) _ (f .0)) (s .pre)
+same-length c = as-long _ _ _ (end-laid (numbered-at c)) (start (back c) .pre)
 
 returns : tie.Need-returns
-returns c =
-    let q = c in
-    let k = q .before .before .before .before in
-    let s = k .before .before .before .before .before .before in
-    let a = s .args in
-    let w = a .word .now in
-    let d = a .out .now in
-    let n = a .n in
-    let l = named-long w n (a .end) in
-    let x = k .before .before .put .ensures in
-    let y = space-laid w n (a .end) d (s .pre) _ x in
-    let f = q .before .before .put-numeral .ensures in
-    let z = number-size w n (a .end) d (s .pre) _ _ y (f .1) in
-    (omega (arith, f .0), end-laid w n (a .end) d (s .pre) _ _ y (f .1) _ (f .0))
+returns c = (numbered-room (numbered-at c), end-laid (numbered-at c))
 
 pub put-named-spec : {M : Type 1} → statement M
 put-named-spec =
