@@ -66,7 +66,7 @@ module _ (t : Table) (f : ℕ) (ds c : List ℕ) (i : Item t f ds c) where
   item-bytes = exact-unpadded t f c item-exact ∙ ap (λ (l : List ℕ). l ++ c) digits-are
 
 -- a content at its place
-content-at : (pre ds c rest v : List ℕ) (at : ℕ) → length pre ≡ at → v ≡ pre ++ (ds ++ (c ++ rest)) → contentOf v (at + length ds) (length c) ≡ c
+pub content-at : (pre ds c rest v : List ℕ) (at : ℕ) → length pre ≡ at → v ≡ pre ++ (ds ++ (c ++ rest)) → contentOf v (at + length ds) (length c) ≡ c
 content-at pre ds c rest v at l e =
     let j : v ≡ (pre ++ ds) ++ (c ++ rest) = e ∙ sym (append-assoc pre ds (c ++ rest)) in
     let d : drop (at + length ds) v ≡ c ++ rest = rw j (drop-at (pre ++ ds) (c ++ rest) (at + length ds) (omega (arith, length-append pre ds, l))) in

@@ -1,1 +1,4 @@
+pub mod Cleaning
+pub mod LookedUp
+pub mod Rereading
 pub mod RoundTrip

@@ -4,8 +4,8 @@
 use Prim.Native.Nat.{_-_, _≤_}
 use lib.ListN.{length}
 use borrow.Author.Needs.{needs}
-use Rattle.conversions.proofs.print.print_hex.Statement.{statement}
-use Rattle.conversions.proofs.print.print_hex.Tie as tie
+use Rattle.conversions.proofs.print_hex.Statement.{statement}
+use Rattle.conversions.proofs.print_hex.Tie as tie
 
 abbrev Inv-loop : tie.InvT-loop
 Inv-loop s i₀ i = i ≤ length s
