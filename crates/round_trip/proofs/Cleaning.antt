@@ -22,7 +22,7 @@ use Rattle.message_walk.proofs.Weaker.{weaker-walked, weaker-entries}
 use Rattle.message_write.specs.Written.{messageOf, shortIn, bytesBy, answerOn, outputOn, answerBy, outputBy, paddedOn, paddedBy}
 use Rattle.message_write.proofs.Passing.{entries-good}
 use Rattle.message_write.proofs.Answering.{written-ended}
-use Rattle.round_trip.specs.Cleaning.{AgreesWithExact}
+use Rattle.round_trip.specs.RoundTrip.{AgreesWithExact}
 
 -- entries that the exact writer takes are not short
 none-short : (t : Table) (v : List ℕ) (m : ℕ) (es : List Entry) → AllGood (exactFault t) v m es → shortIn t es ≡ []

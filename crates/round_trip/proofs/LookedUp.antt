@@ -26,7 +26,7 @@ use Rattle.message_walk.proofs.Written.{Walkable, none, more}
 use Rattle.message_lookup.specs.Lookup.{any, foundIn, foundBy, lookedUp}
 use Rattle.message_lookup.specs.declared.Found.{Found}
 use Rattle.message_lookup.specs.declared.Found.the-variants.{At, Refused}
-use Rattle.round_trip.specs.LookedUp.{endPlace, LooksUp}
+use Rattle.round_trip.specs.RoundTrip.{endPlace, LooksUp}
 use Rattle.round_trip.proofs.Noted.{Noted, noted}
 
 -- the first number of entries, and those behind it

@@ -32,7 +32,7 @@ use Rattle.message_walk.proofs.Ends.{head-long}
 use Rattle.message_walk.proofs.Written.{Walkable, none as walked-none, more as walked-more}
 use Rattle.message_write.specs.Written.{numbersOf, bodyOf, bitmapsOf, messageOf, bytesBy, answered, laidOut, answerOn, outputOn, answerBy, outputBy}
 use Rattle.message_write.proofs.Answering.{written-ended}
-use Rattle.round_trip.specs.Rereading.{moved, contentsIn, readingOf, WritesMessages}
+use Rattle.round_trip.specs.RoundTrip.{moved, contentsIn, readingOf, WritesMessages}
 use Rattle.round_trip.proofs.Fields.{Rising, end, next, content-at}
 use Rattle.round_trip.proofs.Made.{ordered, all-fields, maps-whole, maps-count, maps-fields}
 

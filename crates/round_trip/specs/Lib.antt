@@ -1,4 +1,1 @@
-pub mod Cleaning
-pub mod LookedUp
-pub mod Rereading
 pub mod RoundTrip

@@ -1,1 +1,1 @@
-// Theorems over the reader, lookup and the exact writer together: see specs/RoundTrip.antt. It has no code.
+// Theorems over the reader, lookup and both writers together: see specs/RoundTrip.antt. It has no code.
