@@ -1,4 +1,4 @@
--- What a refusal holds, and what a conversion answers and leaves in its output.
+-- What a refusal holds, what a conversion answers and leaves in its output, and what a check answers.
 --
 --   refusal n f p          == number n, field f, position p
 --   tell r vs              == the refusal r, and the values vs
@@ -8,6 +8,8 @@
 --   converted n r out      == the answer of a conversion to the bytes r: `plain n` where its source fails with the number n
 --                             (0: it does not fail), 14 where r does not fit in out, else the length of r
 --   convertedInto n r out  == each byte of its output afterwards
+--   toldChecked c          == what a check's answer tells; it has no values
+--   checked n f            == the answer of a check that fails with the number n, for the field f: position 0 (n is 0: it passes)
 --
 -- Assumes nothing: these are definitions.
 use Prim.Native.Nat.{ℕ}
@@ -20,6 +22,8 @@ use Rattle.refusal.specs.Numbers.{outputTooShort}
 use Rattle.refusal.specs.declared.Refusal.{Refusal}
 use Rattle.refusal.specs.declared.Output.{Output}
 use Rattle.refusal.specs.declared.Output.the-variants.{Written, Refused}
+use Rattle.refusal.specs.declared.Checked.{Checked}
+use Rattle.refusal.specs.declared.Checked.the-variants.{Passed, Refused as Failed}
 
 abbrev pub refusal : ℕ → ℕ → ℕ → Refusal
 refusal n f p = record { number = n; field = f; position = p }
@@ -49,3 +53,11 @@ converted n r out =
 -- 01: "No refusal changes a lent buffer"; "touches no byte beyond it".
 unfoldable pub convertedInto : ℕ → List ℕ → List ℕ → List ℕ
 convertedInto n r out = cond (eqb n 0) (placed r out) out
+
+abbrev pub toldChecked : Checked → Told
+toldChecked Passed = tell (plain 0) []
+toldChecked (Failed r) = tell r []
+
+-- 01: "Positions: … All else 0."
+unfoldable pub checked : ℕ → ℕ → Checked
+checked n f = cond (eqb n 0) Passed (Failed (refusal n f 0))

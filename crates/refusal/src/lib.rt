@@ -1,4 +1,6 @@
 // What a routine answers when it refuses: 01's numbers, by name. Nothing here knows how any routine works.
+ghost use mathlib.Core.Path.{_≡_};
+ghost use Rattle.refusal.specs.Refusals.{checked};
 
 // 01: "An answer holds number, field (0 if none) and position."
 pub struct Refusal {
@@ -11,6 +13,26 @@ pub struct Refusal {
 pub enum Output {
     Written(usize),
     Refused(Refusal),
+}
+
+// What a check answers: nothing is wrong, or why it fails.
+pub enum Checked {
+    Passed,
+    Refused(Refusal),
+}
+
+// The answer of a check that fails with that number for that field; 0 where it passes.
+pub fn answer_check(number: u8, field: usize) -> Checked
+    ensures { λ r. ⌜ r ≡ checked number field ⌝ }
+{
+    if number == 0 {
+        return Checked::Passed;
+    }
+    Checked::Refused(Refusal {
+        number,
+        field,
+        position: 0,
+    })
 }
 
 // The reader's notes buffer is under 1,531 bytes.
