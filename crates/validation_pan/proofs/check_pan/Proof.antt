@@ -1,0 +1,15 @@
+use borrow.Author.Needs.{needs}
+use Rattle.validation_pan.proofs.check_pan.Statement.{statement}
+use Rattle.validation_pan.proofs.check_pan.Tie as tie
+
+pan-fault-requires : tie.Need-pan-fault-requires
+pan-fault-requires c κs = search needs
+
+answer-check-requires : tie.Need-answer-check-requires
+answer-check-requires c κs = search needs
+
+returns : tie.Need-returns
+returns c = cc
+
+pub check-pan-spec : {M : Type 1} → statement M
+check-pan-spec = tie.close (tie.spec pan-fault-requires answer-check-requires returns)

@@ -1,0 +1,23 @@
+use Rattle.validation_pan.proofs.Pan.{too-few, too-many, enough}
+use borrow.Author.Needs.{needs}
+use Rattle.validation_pan.proofs.is_pan.Statement.{statement}
+use Rattle.validation_pan.proofs.is_pan.Tie as tie
+
+count-digits-requires : tie.Need-count-digits-requires
+count-digits-requires c κs = search needs
+
+returns : tie.Need-returns
+returns c = search (too-few, needs)
+
+returns-2 : tie.Need-returns-2
+returns-2 c = search (too-many, needs)
+
+luhn-remainder-requires : tie.Need-luhn-remainder-requires
+luhn-remainder-requires c κs = search needs
+
+returns-3 : tie.Need-returns-3
+returns-3 c = search (enough, needs)
+
+pub is-pan-spec : {M : Type 1} → statement M
+is-pan-spec =
+    tie.close (tie.spec count-digits-requires returns returns-2 luhn-remainder-requires returns-3)
