@@ -1,34 +1,25 @@
+use Rattle.validation_dates.proofs.Dates.{digits-room, date-no-digits, date-no-month, date-day}
 use borrow.Author.Needs.{needs}
 use Rattle.validation_dates.proofs.is_date.Statement.{statement}
 use Rattle.validation_dates.proofs.is_date.Tie as tie
-use Rattle.validation_dates.proofs.is_date.Reads as reads
-use Rattle.validation_dates.proofs.is_date.Lts as lts
-use Rattle.validation_dates.proofs.are_digits.Reads as are-digits-reads
-use Rattle.validation_dates.proofs.is_pair_between.Reads as is-pair-between-reads
 
--- src/lib.rt:33:9
 are-digits-requires : tie.Need-are-digits-requires
 are-digits-requires c κs = search needs
 
--- src/lib.rt:34:9
 returns : tie.Need-returns
-returns c = search needs
+returns c = search (date-no-digits, needs)
 
--- src/lib.rt:36:9
 is-pair-between-requires : tie.Need-is-pair-between-requires
-is-pair-between-requires c κs = search needs
+is-pair-between-requires c κs = search (digits-room, needs)
 
--- src/lib.rt:37:9
 returns-2 : tie.Need-returns-2
-returns-2 c = search needs
+returns-2 c = search (date-no-month, needs)
 
--- src/lib.rt:39:5
 is-pair-between-requires-2 : tie.Need-is-pair-between-requires-2
-is-pair-between-requires-2 c κs = search needs
+is-pair-between-requires-2 c κs = search (digits-room, needs)
 
--- src/lib.rt:30:1
 returns-3 : tie.Need-returns-3
-returns-3 c = search needs
+returns-3 c = search (date-day, needs)
 
 pub is-date-spec : {M : Type 1} → statement M
 is-date-spec =
