@@ -24,6 +24,11 @@ module _ {P : Type 0} where
   pub by-eq : (a b : ℕ) → (a ≡ b → P) → ((a ≡ b → ⊥) → P) → P
   by-eq a b y n = by-bool (eqb a b) (λ e. y (eqb-true a b e)) (λ e. n (eqb-false a b e))
 
+-- what a test of one thing or another says
+pub by-either : {P : Type 0} (a b : Bool) → either a b ≡ true → (a ≡ true → P) → (b ≡ true → P) → P
+by-either true b t y n = y refl
+by-either false b t y n = n t
+
 -- what a test of two things says of each
 pub both-left : (a b : Bool) → both a b ≡ true → a ≡ true
 both-left true b t = refl

@@ -115,6 +115,11 @@ all-at p [] i t h = absurd (not-suc-le-zero h)
 all-at p (x ∷ s) zero t h = both-left (p x) (all p s) t
 all-at p (x ∷ s) (suc i) t h = all-at p s i (both-right (p x) (all p s) t) (le-of-suc-le-suc h)
 
+-- a test that says more at each element says more of all
+pub all-weaker : (p q : ℕ → Bool) → ((x : ℕ) → p x ≡ true → q x ≡ true) → (s : List ℕ) → all p s ≡ true → all q s ≡ true
+all-weaker p q h [] t = refl
+all-weaker p q h (x ∷ s) t = rw (h x (both-left (p x) (all p s) t)) (all-weaker p q h s (both-right (p x) (all p s) t))
+
 pub all-append : (p : ℕ → Bool) (s t : List ℕ) → all p s ≡ true → all p t ≡ true → all p (s ++ t) ≡ true
 all-append p [] t a b = b
 all-append p (x ∷ s) t a b = rw (both-left (p x) (all p s) a) (all-append p s t (both-right (p x) (all p s) a) b)

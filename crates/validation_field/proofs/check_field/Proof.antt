@@ -1,0 +1,15 @@
+use borrow.Author.Needs.{needs}
+use Rattle.validation_field.proofs.check_field.Statement.{statement}
+use Rattle.validation_field.proofs.check_field.Tie as tie
+
+field-fault-requires : tie.Need-field-fault-requires
+field-fault-requires c κs = search needs
+
+answer-check-requires : tie.Need-answer-check-requires
+answer-check-requires c κs = search needs
+
+returns : tie.Need-returns
+returns c = cc
+
+pub check-field-spec : {M : Type 1} → statement M
+check-field-spec = tie.close (tie.spec field-fault-requires answer-check-requires returns)

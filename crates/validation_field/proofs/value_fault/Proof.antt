@@ -1,0 +1,37 @@
+use Rattle.validation_field.proofs.Checks.{value-pan, value-free, value-zero, value-some}
+use borrow.Author.Needs.{needs}
+use Rattle.validation_field.proofs.value_fault.Statement.{statement}
+use Rattle.validation_field.proofs.value_fault.Tie as tie
+
+pan-fault-requires : tie.Need-pan-fault-requires
+pan-fault-requires c κs = search needs
+
+returns : tie.Need-returns
+returns c = search (value-pan, needs)
+
+is-amount-field-requires : tie.Need-is-amount-field-requires
+is-amount-field-requires c κs = search needs
+
+returns-2 : tie.Need-returns-2
+returns-2 c = search (value-free, needs)
+
+all-between-requires : tie.Need-all-between-requires
+all-between-requires c κs = search needs
+
+returns-3 : tie.Need-returns-3
+returns-3 c = search (value-zero, needs)
+
+returns-4 : tie.Need-returns-4
+returns-4 c = search (value-some, needs)
+
+pub value-fault-spec : {M : Type 1} → statement M
+value-fault-spec =
+    tie.close
+    (tie.spec
+    pan-fault-requires
+    returns
+    is-amount-field-requires
+    returns-2
+    all-between-requires
+    returns-3
+    returns-4)
