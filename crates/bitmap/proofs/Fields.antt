@@ -6,8 +6,9 @@ use mathlib.Core.List.{List, [], _∷_, _++_}
 use native.Mathlib.Omega.{arith}
 use native.Mathlib.Nat.{zero-add, add-zero}
 use lib.ListN.{length, length-append}
-use Rattle.octets.specs.Lists.{between}
-use Rattle.octets.proofs.Cases.{by-bool, by-le}
+use Rattle.octets.specs.Lists.{between, all}
+use Rattle.octets.proofs.Cases.{by-bool, by-le, both-left}
+use Rattle.bitmap.specs.Bits.{bitOf}
 use Rattle.bitmap.specs.Bitmaps.{isField, hasField, fieldsFrom, fieldsOf}
 
 -- a number more, with the counter as a loop from f to end has it
@@ -26,6 +27,15 @@ module _ (p : ℕ → Bool) (end f : ℕ) (more : f < end) where
 pub fields-end : (p : ℕ → Bool) (end f : ℕ) → end ≤ f → fieldsFrom p (end - f) f ≡ []
 unfolding fieldsFrom
 fields-end p end f h = let z : end - f ≡ 0 = omega arith in rw z
+
+-- they are fields
+pub fields-are : (s : List ℕ) (k f : ℕ) → all isField (fieldsFrom (hasField s) k f) ≡ true
+unfolding fieldsFrom hasField
+fields-are s zero f = refl
+fields-are s (suc k) f =
+    by-bool (hasField s f)
+    (λ y. rw (fieldsFrom, y, both-left (isField f) (bitOf s f) y) (fields-are s k (f + 1)))
+    (λ n. rw (fieldsFrom, n) (fields-are s k (f + 1)))
 
 -- how many there are
 fields-most : (p : ℕ → Bool) (k f : ℕ) → length (fieldsFrom p k f) ≤ k

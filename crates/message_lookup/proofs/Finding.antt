@@ -10,7 +10,7 @@ use lib.ListN.{length, take, drop}
 use borrow.Author.Tests.{eq-eqb, ne-eqb}
 use Rattle.octets.proofs.Cases.{by-eq}
 use Rattle.refusal.specs.Numbers.{fieldAbsent}
-use Rattle.refusal.specs.Refusals.{refusal, plain}
+use Rattle.refusal.specs.Refusals.{refusal}
 use Rattle.refusal.specs.declared.Refusal.{Refusal}
 use Rattle.field_table.specs.Table.{Table}
 use Rattle.message_language.specs.Language.{Entry, entry}
@@ -20,22 +20,15 @@ use Rattle.message_walk.specs.declared.Judged.{Judged}
 use Rattle.message_walk.specs.declared.Judged.the-variants.{Passed, End, Refused as NoteRefused}
 use Rattle.message_walk.specs.declared.Walked.{Walked}
 use Rattle.message_walk.specs.declared.Walked.the-variants.{Ended, Refused as WalkRefused}
-use Rattle.message_walk.specs.Walk.{Test, headNumber, countIn, judged, passed, Ending, bad, ends, ending, walked, entriesIn}
-use Rattle.message_walk.specs.Answers.{testOf, answerOf, walkedBy}
+use Rattle.message_walk.specs.Walk.{Test, any, countIn, judged, passed, Ending, bad, ends, walked, entriesIn}
+use Rattle.message_walk.specs.Answers.{answerOf, walkedBy}
 use Rattle.message_walk.proofs.Steps.{Good}
-use Rattle.message_walk.proofs.Ends.{Going, going-first, going-next, note-here, head-long}
+use Rattle.message_walk.proofs.Ends.{Going, going-first, going-next, note-here, any-is}
+use Rattle.message_walk.proofs.Heads.{ended-head, good-head}
 use Rattle.message_walk.proofs.Folds.{none-refused, none-end, one-more, AllGood, all-good}
 use Rattle.message_lookup.specs.declared.Found.{Found}
 use Rattle.message_lookup.specs.declared.Found.the-variants.{At, Refused}
-use Rattle.message_lookup.specs.Lookup.{any, foundIn, foundBy, lookedUp, startOf, sizeOf}
-
--- lookup's rule asks nothing
-pub any-is : (t : Table) → testOf t Any ≡ any
-unfolding testOf
-any-is t = refl
-
-pub judged-any : (t : Table) (v : List ℕ) (m m′ last : ℕ) (s : List ℕ) (o : Judged) → o ≡ judged (testOf t Any) v m last s → m ≡ m′ → o ≡ judged any v m′ last s
-judged-any t v m m′ last s o e h = e ∙ ap (λ (p : Test). judged p v m last s) (any-is t) ∙ ap (λ (x : ℕ). judged any v x last s) h
+use Rattle.message_lookup.specs.Lookup.{foundIn, foundBy, lookedUp, startOf, sizeOf}
 
 pub absent-is : (f at : ℕ) → Refused (refusal fieldAbsent f at) ≡ foundIn f at []
 unfolding foundIn
@@ -101,14 +94,7 @@ module _ (t : Table) (v n : List ℕ) (f : ℕ) where
 
     -- a walk that comes to the end note has a whole head
     pub looked-head : (at u : ℕ) → w ≡ Ended at u → headSize ≤ length n
-    unfolding walked
-    looked-head at u h =
-        by-eq (headNumber n) 0
-        (λ z. head-long n (headNumber n) refl z)
-        (λ z. absurd (clash (by-end (walked any v n) w as-any at u h) z))
-      where
-        clash : (cond (eqb (headNumber n) 0) (ending any v (countIn n) (length n) 0 headSize (drop headSize n)) (bad (plain (headNumber n)))) ≡ ends at u → (headNumber n ≡ 0 → ⊥) → ⊥
-        clash q z = let y : bad (plain (headNumber n)) ≡ ends at u = rw (ne-eqb (headNumber n) 0 z) at q in let x : _≡_ {A = ℕ} 0 1 = cc in omega arith
+    looked-head at u h = good-head n (ended-head any v n at u (by-end (walked any v n) w as-any at u h)) .whole
 
 -- A content that is found lies within the values.
 found-inside : (v : List ℕ) (m f end : ℕ) (es : List Entry) → AllGood any v m es → (o z : ℕ) → foundIn f end es ≡ At o z → o + z ≤ length v

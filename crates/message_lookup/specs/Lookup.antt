@@ -14,12 +14,9 @@ use lib.Dec.{eqb}
 use Rattle.refusal.specs.Numbers.{fieldAbsent}
 use Rattle.refusal.specs.Refusals.{refusal, plain, Told, tell}
 use Rattle.message_language.specs.Language.{Entry}
-use Rattle.message_walk.specs.Walk.{Test, Ending, bad, ends, walked, entriesIn}
+use Rattle.message_walk.specs.Walk.{any, Ending, bad, ends, walked, entriesIn}
 use Rattle.message_lookup.specs.declared.Found.{Found}
 use Rattle.message_lookup.specs.declared.Found.the-variants.{At, Refused}
-
-abbrev pub any : Test
-any f c = 0
 
 -- 01: "15 the end note"
 unfoldable pub foundIn : ℕ → ℕ → List Entry → Found

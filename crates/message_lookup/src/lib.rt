@@ -7,8 +7,8 @@ ghost use mathlib.Core.Path.{_≡_};
 ghost use mathlib.Core.List.{[]};
 ghost use Prim.Native.Nat.{_+_, _≤_};
 ghost use lib.ListN.{length, take, drop};
-ghost use Rattle.message_walk.specs.Walk.{entriesIn};
-ghost use Rattle.message_lookup.specs.Lookup.{any, foundIn, lookedUp, startOf, sizeOf};
+ghost use Rattle.message_walk.specs.Walk.{any, entriesIn};
+ghost use Rattle.message_lookup.specs.Lookup.{foundIn, lookedUp, startOf, sizeOf};
 
 // The content's place in the values and its length, or the refusal.
 pub enum Found {

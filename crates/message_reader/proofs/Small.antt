@@ -7,10 +7,9 @@ use native.Mathlib.Omega.{arith}
 use lib.Dec.{eqb}
 use lib.ListN.{length, length-append}
 use Rattle.octets.specs.Lists.{both, all}
-use Rattle.octets.proofs.Cases.{by-bool, both-left, both-right}
-use Rattle.bitmap.specs.Bits.{bitOf}
-use Rattle.bitmap.specs.Bitmaps.{isField, hasField, fieldsFrom, fieldsOf}
-use Rattle.bitmap.proofs.Fields.{fields-few}
+use Rattle.octets.proofs.Cases.{both-left, both-right}
+use Rattle.bitmap.specs.Bitmaps.{isField, fieldsOf}
+use Rattle.bitmap.proofs.Fields.{fields-are, fields-few}
 use Rattle.bitmap.proofs.Maps.{field-high}
 use Rattle.field_table.specs.Table.{Table}
 use Rattle.field_table.proofs.Rows.{Small}
@@ -18,15 +17,6 @@ use Rattle.message_language.specs.Language.{Item, Entry, entry, Fields, none, m
 use Rattle.message_notes.specs.Notes.{notesOf, notesRoom}
 use Rattle.message_notes.proofs.Sizes.{notes-long}
 use Rattle.message_notes.proofs.Spelling.{Fits, AllFit}
-
--- the fields present are fields
-fields-are : (s : List ℕ) (k f : ℕ) → all isField (fieldsFrom (hasField s) k f) ≡ true
-unfolding fieldsFrom hasField
-fields-are s zero f = refl
-fields-are s (suc k) f =
-    by-bool (hasField s f)
-    (λ y. rw (fieldsFrom, y, both-left (isField f) (bitOf s f) y) (fields-are s k (f + 1)))
-    (λ n. rw (fieldsFrom, n) (fields-are s k (f + 1)))
 
 -- as many entries as fields
 entries-long : (t : Table) {at : ℕ} {fs bs : List ℕ} {es : List Entry} → Fields t at fs bs es → length es ≡ length fs

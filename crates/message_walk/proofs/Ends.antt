@@ -24,11 +24,12 @@ use Rattle.message_notes.specs.Notes.{headKind, headSize, fieldNoteSize, noteAt
 use Rattle.message_notes.specs.declared.Note.{Note}
 use Rattle.message_notes.specs.declared.Note.the-variants.{Field as FieldNote, End as EndNote, Malformed}
 use Rattle.message_walk.specs.declared.Rule.{Rule}
+use Rattle.message_walk.specs.declared.Rule.the-variants.{Any}
 use Rattle.message_walk.specs.declared.Judged.{Judged}
 use Rattle.message_walk.specs.declared.Judged.the-variants.{Passed, End, Refused}
 use Rattle.message_walk.specs.declared.Walked.{Walked}
 use Rattle.message_walk.specs.declared.Walked.the-variants.{Ended, Refused as WalkRefused}
-use Rattle.message_walk.specs.Walk.{Test, headNumber, countIn, numberAllowed, contentOf, judgedField, judged, passed, Ending, bad, ends, ending, walked}
+use Rattle.message_walk.specs.Walk.{Test, any, headNumber, countIn, numberAllowed, contentOf, judgedField, judged, passed, Ending, bad, ends, ending, walked}
 use Rattle.message_walk.specs.Answers.{testOf, answerOf, walkedBy, endedBy}
 use Rattle.message_walk.proofs.Steps.{passing, note-whole, ending-bad, ending-end, ending-more}
 
@@ -190,6 +191,14 @@ module _ (t : Table) (r : Rule) (v n : List ℕ) where
 
 pub counted : (p : Test) (v : List ℕ) (m m′ last : ℕ) (s : List ℕ) (o : Judged) → o ≡ judged p v m last s → m ≡ m′ → o ≡ judged p v m′ last s
 counted p v m m′ last s o e h = e ∙ ap (λ (x : ℕ). judged p v x last s) h
+
+-- the rule that asks nothing
+pub any-is : (t : Table) → testOf t Any ≡ any
+unfolding testOf
+any-is t = refl
+
+pub judged-any : (t : Table) (v : List ℕ) (m m′ last : ℕ) (s : List ℕ) (o : Judged) → o ≡ judged (testOf t Any) v m last s → m ≡ m′ → o ≡ judged any v m′ last s
+judged-any t v m m′ last s o e h = counted any v m m′ last s o (e ∙ ap (λ (p : Test). judged p v m last s) (any-is t)) h
 
 -- `walk`
 module _ (t : Table) (r : Rule) (v n : List ℕ) (fault : ℕ) (found : fault ≡ headNumber n) where

@@ -1,5 +1,6 @@
 pub mod Ends
 pub mod Folds
+pub mod Heads
 pub mod Steps
 pub mod Weaker
 pub mod Written

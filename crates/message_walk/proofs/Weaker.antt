@@ -6,9 +6,8 @@ use mathlib.Core.List.{List, [], _∷_}
 use native.Mathlib.Omega.{arith}
 use lib.Dec.{eqb}
 use lib.ListN.{length, drop}
-use borrow.Author.Tests.{eq-eqb, ne-eqb}
-use Rattle.octets.proofs.Cases.{by-eq}
-use Rattle.refusal.specs.Refusals.{refusal, plain}
+use borrow.Author.Tests.{eq-eqb}
+use Rattle.refusal.specs.Refusals.{refusal}
 use Rattle.refusal.specs.declared.Refusal.{Refusal}
 use Rattle.message_language.specs.Language.{Entry, entry}
 use Rattle.message_notes.specs.Notes.{headSize, fieldNoteSize, noteAt}
@@ -17,6 +16,7 @@ use Rattle.message_walk.specs.declared.Judged.{Judged}
 use Rattle.message_walk.specs.declared.Judged.the-variants.{Passed, End, Refused}
 use Rattle.message_walk.specs.Walk.{Test, headNumber, countIn, contentOf, judged, passed, Ending, bad, ends, ending, walked, entriesIn}
 use Rattle.message_walk.proofs.Steps.{by-judged, Good, passes, judged-note, judged-end, ends-note, passing, ending-bad, ending-end, ending-more, passed-end, passed-more}
+use Rattle.message_walk.proofs.Heads.{ended-head}
 
 module _ (p q : Test) (weaker : (f : ℕ) (c : List ℕ) → p f c ≡ 0 → q f c ≡ 0) (v : List ℕ) (m : ℕ) where
   pub record Alike (k last at : ℕ) (s : List ℕ) (x u : ℕ) : Type 0 where
@@ -51,11 +51,7 @@ module _ (p q : Test) (weaker : (f : ℕ) (c : List ℕ) → p f c ≡ 0 → q f
 
 module _ (p q : Test) (weaker : (f : ℕ) (c : List ℕ) → p f c ≡ 0 → q f c ≡ 0) (v n : List ℕ) (x u : ℕ) (e : walked p v n ≡ ends x u) where
   good : headNumber n ≡ 0
-  unfolding walked
-  good = by-eq (headNumber n) 0 (λ z. z) (λ z. absurd (clash (rw (ne-eqb (headNumber n) 0 z) at e)))
-    where
-      clash : bad (plain (headNumber n)) ≡ ends x u → ⊥
-      clash h = let z : _≡_ {A = ℕ} 0 1 = cc in omega arith
+  good = ended-head p v n x u e
 
   rest : ending p v (countIn n) (length n) 0 headSize (drop headSize n) ≡ ends x u
   unfolding walked

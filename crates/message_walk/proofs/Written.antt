@@ -20,12 +20,22 @@ use Rattle.message_notes.proofs.Spelling.{Fits, AllFit}
 use Rattle.message_notes.proofs.Reading.{field-back, end-back}
 use Rattle.message_walk.specs.declared.Judged.the-variants.{Passed, End}
 use Rattle.message_walk.specs.Walk.{Test, headNumber, countIn, mtiIn, judged, passed, Ending, ends, ending, walked, entriesIn}
-use Rattle.message_walk.proofs.Steps.{Good, passes, judged-end, judged-note, ending-end, ending-more, passed-end, passed-more}
+use Rattle.message_walk.proofs.Steps.{by-judged, Good, passes, passing, judged-end, judged-note, ending-end, ending-more, passed-bad, passed-end, passed-more}
 
 -- entries that pass one after the other, the first above last
 pub data Walkable (p : Test) (v : List ℕ) (m : ℕ) : ℕ → List Entry → Type 0 where
   none : {last : ℕ} → Walkable p v m last []
   more : {last f a n : ℕ} {es : List Entry} → Good p v m last f a n → Walkable p v m f es → Walkable p v m last (entry f a n ∷ es)
+
+-- as those do that a walk passes
+pub walkable : (p : Test) (v : List ℕ) (m k last : ℕ) (s : List ℕ) → Walkable p v m last (passed p v m k last s)
+unfolding passed
+walkable p v m zero last s = none
+walkable p v m (suc k) last s =
+    by-judged (judged p v m last s)
+    (λ x f e. rw (passed-bad p v m k last s x f e) none)
+    (λ u e. rw (passed-end p v m k last s u e) none)
+    (λ f a c e. rw (passed-more p v m k last s f a c e) (more (passing p v m last s f a c e .good) (walkable p v m k f (drop fieldNoteSize s))))
 
 module _ (p : Test) (v : List ℕ) (m u : ℕ) (z : List ℕ) (small : u < 4294967296) where
   abbrev tail : List ℕ

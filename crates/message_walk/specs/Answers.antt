@@ -16,11 +16,11 @@ use Rattle.message_walk.specs.declared.Rule.{Rule}
 use Rattle.message_walk.specs.declared.Rule.the-variants.{Any, Exact, Clean}
 use Rattle.message_walk.specs.declared.Walked.{Walked}
 use Rattle.message_walk.specs.declared.Walked.the-variants.{Ended, Refused}
-use Rattle.message_walk.specs.Walk.{Test, countIn, Ending, bad, ends, ending, walked}
+use Rattle.message_walk.specs.Walk.{Test, any, countIn, Ending, bad, ends, ending, walked}
 
 -- 01: lookup asks nothing more of a field; the writers ask 12 and 8, "cleaning: too long only"
 unfoldable pub testOf : Table → Rule → Test
-testOf t Any = λ f c. 0
+testOf t Any = any
 testOf t Exact = exactFault t
 testOf t Clean = cleanFault t
 

@@ -3,6 +3,7 @@
 -- 01's number for a field's number and content, or 0 where it finds nothing.
 --
 --   Test                      == from a field's number and its content to a refusal's number, or 0
+--   any                       == the test that finds nothing, whatever the field and its content
 --   headNumber n              == 0 where the notes n begin with a good head, else 9 or 3
 --   countIn n                 == the count of bitmaps in the head of n
 --   mtiIn n                   == the MTI in it
@@ -35,6 +36,9 @@ use Rattle.message_walk.specs.declared.Judged.the-variants.{Passed, End,
 
 abbrev pub Test : Type 0
 Test = ℕ → List ℕ → ℕ
+
+abbrev pub any : Test
+any f c = 0
 
 -- 01: "note missing, cut, wrong kind, or count not 1-3", then "MTI has a non-digit"
 unfoldable pub headNumber : List ℕ → ℕ

@@ -26,11 +26,10 @@ use Rattle.message_walk.specs.declared.Rule.{Rule}
 use Rattle.message_walk.specs.declared.Rule.the-variants.{Clean}
 use Rattle.message_walk.specs.declared.Walked.{Walked}
 use Rattle.message_walk.specs.declared.Walked.the-variants.{Ended, Refused as WalkRefused}
-use Rattle.message_walk.specs.Walk.{Test, headNumber, countIn, mtiIn, Ending, bad, ends, ending, walked, entriesIn}
+use Rattle.message_walk.specs.Walk.{Test, any, headNumber, countIn, mtiIn, Ending, bad, ends, ending, walked, entriesIn}
 use Rattle.message_walk.specs.Answers.{testOf, answerOf, walkedBy}
 use Rattle.message_walk.proofs.Weaker.{weaker-walked, weaker-entries}
 use Rattle.message_write.specs.Written.{numbersOf, bodyOf, bitmapsOf, messageOf, shortIn, bytesBy, answered, laidOut, answerOn, outputOn, answerBy, outputBy, paddedOn, paddedBy}
-use Rattle.message_write.specs.Passes.{any}
 
 -- sizes
 bytes-long : (p : ℕ → Bool) (k f : ℕ) → length (bytesOf p k f) ≡ k

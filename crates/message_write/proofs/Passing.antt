@@ -23,23 +23,15 @@ use Rattle.bitmap.proofs.Sets.{set-is}
 use Rattle.bitmap.proofs.Maps.{field-high}
 use Rattle.message_language.specs.Language.{Entry, entry}
 use Rattle.message_notes.specs.Notes.{headSize, fieldNoteSize}
-use Rattle.message_walk.specs.declared.Rule.the-variants.{Any, Clean}
+use Rattle.message_walk.specs.declared.Rule.the-variants.{Clean}
 use Rattle.message_walk.specs.declared.Judged.{Judged}
 use Rattle.message_walk.specs.declared.Judged.the-variants.{Passed, End, Refused}
-use Rattle.message_walk.specs.Walk.{Test, countIn, numberAllowed, contentOf, judged, passed, entriesIn}
+use Rattle.message_walk.specs.Walk.{Test, any, countIn, numberAllowed, contentOf, judged, passed, entriesIn}
 use Rattle.message_walk.specs.Answers.{testOf}
 use Rattle.message_walk.proofs.Steps.{Good, passing}
 use Rattle.message_walk.proofs.Ends.{Going, going-first, going-next, note-here, passed-here}
 use Rattle.message_walk.proofs.Folds.{none-refused, none-end, one-more, AllGood, all-good}
 use Rattle.message_write.specs.Written.{numbersOf, bodyOf, shortIn}
-use Rattle.message_write.specs.Passes.{any}
-
-any-is : (t : Table) → testOf t Any ≡ any
-unfolding testOf
-any-is t = refl
-
-pub judged-any : (t : Table) (v : List ℕ) (m m′ last : ℕ) (s : List ℕ) (o : Judged) → o ≡ judged (testOf t Any) v m last s → m ≡ m′ → o ≡ judged any v m′ last s
-judged-any t v m m′ last s o e h = e ∙ ap (λ (p : Test). judged p v m last s) (any-is t) ∙ ap (λ (x : ℕ). judged any v x last s) h
 
 -- the numbers of entries that pass are fields
 allowed-field : (m last f : ℕ) → numberAllowed m last f ≡ true → isField f ≡ true

@@ -13,10 +13,9 @@ ghost use lib.ListN.{length};
 ghost use Rattle.octets.specs.Lists.{lay};
 ghost use Rattle.field_table.specs.House.{house};
 ghost use Rattle.bitmap.specs.Bitmaps.{setOf};
-ghost use Rattle.message_walk.specs.Walk.{headNumber, countIn, mtiIn, entriesIn};
+ghost use Rattle.message_walk.specs.Walk.{any, headNumber, countIn, mtiIn, entriesIn};
 ghost use Rattle.message_walk.specs.Answers.{testOf};
 ghost use Rattle.message_write.specs.Written.{numbersOf, bodyOf, messageOf, shortIn, answered, laidOut, answerBy, outputBy, paddedBy};
-ghost use Rattle.message_write.specs.Passes.{any};
 
 // What the cleaning writer answers: as the exact one, and the set of the fields that it padded, empty where it refuses.
 pub struct Cleaned {

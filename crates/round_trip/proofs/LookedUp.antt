@@ -19,11 +19,11 @@ use Rattle.bitmap.specs.Bitmaps.{isField}
 use Rattle.message_language.specs.Language.{Entry, entry, Reading, Begins}
 use Rattle.message_notes.specs.Notes.{notesOf, notesRoom}
 use Rattle.message_reader.specs.Reader.{notesAfter}
-use Rattle.message_walk.specs.Walk.{Test, numberAllowed, ends, walked, entriesIn}
+use Rattle.message_walk.specs.Walk.{Test, any, numberAllowed, ends, walked, entriesIn}
 use Rattle.message_walk.proofs.Weaker.{weaker-walked, weaker-entries}
 use Rattle.message_walk.proofs.Steps.{Good}
 use Rattle.message_walk.proofs.Written.{Walkable, none, more}
-use Rattle.message_lookup.specs.Lookup.{any, foundIn, foundBy, lookedUp}
+use Rattle.message_lookup.specs.Lookup.{foundIn, foundBy, lookedUp}
 use Rattle.message_lookup.specs.declared.Found.{Found}
 use Rattle.message_lookup.specs.declared.Found.the-variants.{At, Refused}
 use Rattle.round_trip.specs.RoundTrip.{endPlace, LooksUp}

@@ -9,10 +9,11 @@ use lib.ListN.{length, take, replicate}
 use lib.Seq.{take-at}
 use borrow.Author.Tests.{eq-eqb, ne-eqb, le-leb, lt-leb}
 use Rattle.octets.specs.Lists.{both, either, between, all}
-use Rattle.octets.proofs.Cases.{by-bool, by-eq, both-left, both-right}
+use Rattle.octets.proofs.Cases.{by-bool, by-eq}
 use Rattle.bitmap.specs.Bits.{bitOf, bytesOf}
 use Rattle.bitmap.specs.Bitmaps.{isField, hasField, countOf, fieldsFrom, fieldsOf, isIn, setOf, setFrom, noFields, mapBit, mapsFor}
 use Rattle.bitmap.proofs.Bits.{bytes-of-bits}
+use Rattle.bitmap.proofs.Fields.{fields-are}
 use Rattle.bitmap.proofs.Maps.{field-not-65}
 use Rattle.bitmap.proofs.Sets.{set-is, has-set}
 
@@ -37,14 +38,6 @@ is-in p (suc k) g f l u =
         by-bool (p g)
         (λ y. rw (fieldsFrom, y, ne-eqb g f (λ (q : g ≡ f). omega arith)) (below p k (g + 1) f (omega arith)))
         (λ y. rw (fieldsFrom, y) (below p k (g + 1) f (omega arith)))
-
-pub fields-are : (s : List ℕ) (k f : ℕ) → all isField (fieldsFrom (hasField s) k f) ≡ true
-unfolding fieldsFrom hasField
-fields-are s zero f = refl
-fields-are s (suc k) f =
-    by-bool (hasField s f)
-    (λ y. rw (fieldsFrom, y, both-left (isField f) (bitOf s f) y) (fields-are s k (f + 1)))
-    (λ n. rw (fieldsFrom, n) (fields-are s k (f + 1)))
 
 has-bit : (s : List ℕ) (f : ℕ) → isField f ≡ true → hasField s f ≡ bitOf s f
 unfolding hasField

@@ -7,14 +7,14 @@ use native.Mathlib.Omega.{arith}
 use lib.Dec.{eqb, leb}
 use lib.ListN.{length, take, drop, getD, length-append, length-drop}
 use lib.Seq.{length-take-le, take-at}
-use borrow.Author.Tests.{ne-eqb, eqb-true, leb-true}
-use Rattle.octets.specs.Lists.{both, either, between, all, lay, placed}
+use borrow.Author.Tests.{leb-true}
+use Rattle.octets.specs.Lists.{either, all, lay, placed}
 use Rattle.octets.specs.Numbers.{isDigit, isAscii, decimal}
-use Rattle.octets.proofs.Cases.{by-bool, by-eq, both-left, both-right}
-use Rattle.octets.proofs.Lists.{placed-fits, between-low, between-high}
+use Rattle.octets.proofs.Cases.{by-bool}
+use Rattle.octets.proofs.Lists.{placed-fits}
 use Rattle.octets.proofs.Numbers.{digits-length, digits-between}
-use Rattle.refusal.specs.Numbers.{endDiffers, outputTooShort, mtiNotDigits, noteMalformed}
-use Rattle.refusal.specs.Refusals.{refusal, plain}
+use Rattle.refusal.specs.Numbers.{endDiffers, outputTooShort}
+use Rattle.refusal.specs.Refusals.{refusal}
 use Rattle.refusal.specs.declared.Output.{Output}
 use Rattle.refusal.specs.declared.Output.the-variants.{Written, Refused}
 use Rattle.refusal.specs.declared.Refusal.{Refusal}
@@ -25,28 +25,18 @@ use Rattle.field_write.specs.Fields.{exactFault, fieldBytes}
 use Rattle.field_write.proofs.Allowed.{exact-passed, exact-is-clean}
 use Rattle.field_write.proofs.Cleaned.{exact-unpadded, digits-spell}
 use Rattle.message_language.specs.Language.{Item, Entry, entry, Fields, none, more, Reading, Message}
-use Rattle.message_notes.specs.Notes.{headSize, headKind, fieldNoteSize}
-use Rattle.message_walk.specs.Walk.{Test, headNumber, countIn, mtiIn, contentOf, judged, passed, Ending, bad, ends, ending, walked, entriesIn}
-use Rattle.message_walk.proofs.Steps.{Good, by-judged, passing, passed-bad, passed-end, passed-more}
-use Rattle.message_walk.proofs.Ends.{head-long}
-use Rattle.message_walk.proofs.Written.{Walkable, none as walked-none, more as walked-more}
+use Rattle.message_notes.specs.Notes.{headSize}
+use Rattle.message_walk.specs.Walk.{Test, countIn, mtiIn, contentOf, Ending, ends, walked, entriesIn}
+use Rattle.message_walk.proofs.Steps.{Good}
+use Rattle.message_walk.proofs.Heads.{Head, ended-head, good-head}
+use Rattle.message_walk.proofs.Written.{Walkable, walkable, none as walked-none, more as walked-more}
 use Rattle.message_write.specs.Written.{numbersOf, bodyOf, bitmapsOf, messageOf, bytesBy, answered, laidOut, answerOn, outputOn, answerBy, outputBy}
 use Rattle.message_write.proofs.Answering.{written-ended}
 use Rattle.round_trip.specs.RoundTrip.{moved, contentsIn, readingOf, WritesMessages}
 use Rattle.round_trip.proofs.Fields.{Rising, end, next, content-at}
 use Rattle.round_trip.proofs.Made.{ordered, all-fields, maps-whole, maps-count, maps-fields}
 
--- the entries that pass do so one after the other
-walkable : (p : Test) (v : List ℕ) (m k last : ℕ) (s : List ℕ) → Walkable p v m last (passed p v m k last s)
-unfolding passed
-walkable p v m zero last s = walked-none
-walkable p v m (suc k) last s =
-    by-judged (judged p v m last s)
-    (λ x f e. rw (passed-bad p v m k last s x f e) walked-none)
-    (λ u e. rw (passed-end p v m k last s u e) walked-none)
-    (λ f a c e. rw (passed-more p v m k last s f a c e) (walked-more (passing p v m last s f a c e .good) (walkable p v m k f (drop fieldNoteSize s))))
-
--- and their numbers rise
+-- the numbers of entries that pass rise
 risen : (p : Test) (v : List ℕ) (m : ℕ) {last : ℕ} {es : List Entry} → Walkable p v m last es → Rising m last (numbersOf es)
 unfolding numbersOf
 risen p v m walked-none = end
@@ -109,30 +99,6 @@ module _ (t : Table) (small : Small t) (v : List ℕ) (m : ℕ) where
       ap (λ (x : List ℕ). x ∷ contentsIn all (moved t (at + (t .width f + n)) es)) h
       ∙ ap (λ (x : List (List ℕ)). c ∷ x) (contents w (pre ++ (ds ++ c)) all (at + (t .width f + n)) q (j ∙ simp append-assoc))
 
--- the head of notes whose walk ends
-head-good : (p : Test) (v n : List ℕ) (at u : ℕ) → walked p v n ≡ ends at u → headNumber n ≡ 0
-unfolding walked
-head-good p v n at u e = by-eq (headNumber n) 0 (λ z. z) (λ z. absurd (clash (rw (ne-eqb (headNumber n) 0 z) at e)))
-  where
-    clash : bad (plain (headNumber n)) ≡ ends at u → ⊥
-    clash h = let z : _≡_ {A = ℕ} 0 1 = cc in omega arith
-
-pub record Head (n : List ℕ) : Type 0 where
-  pub count : between 1 3 (getD n 5 0) ≡ true
-  pub digits : all isDigit (take 4 (drop 1 n)) ≡ true
-
-head-parts : (n : List ℕ) → headNumber n ≡ 0 → Head n
-unfolding headNumber
-head-parts n e =
-    let a = leb headSize (length n) in
-    let b = eqb (getD n 0 0) headKind in
-    let c = between 1 3 (getD n 5 0) in
-    by-bool (both a (both b c))
-    (λ y. by-bool (all isDigit (take 4 (drop 1 n)))
-    (λ z. record { count = both-right b c (both-right a (both b c) y); digits = z })
-    (λ z. let q : _≡_ {A = ℕ} mtiNotDigits 0 = rw (y, z) at e in absurd (omega arith)))
-    (λ y. let q : _≡_ {A = ℕ} noteMalformed 0 = rw y at e in absurd (omega arith))
-
 -- what an answer of bytes written shows
 pub record Shown (said u : ℕ) (bytes out : List ℕ) : Type 0 where
   pub length-is : length bytes ≡ u
@@ -171,14 +137,8 @@ module _ (t : Table) (small : Small t) (v n out : List ℕ) (u : ℕ) (h : answe
   unfolding at said
   ended = written-ended (exactFault t) t v n out u h .1 .1
 
-  good : headNumber n ≡ 0
-  good = head-good (exactFault t) v n at said ended
-
   head : Head n
-  head = head-parts n good
-
-  four : length (mtiIn n) ≡ 4
-  four = length-take-le 4 (drop 1 n) (omega (arith, length-drop 1 n, head-long n (headNumber n) refl good))
+  head = good-head n (ended-head (exactFault t) v n at said ended)
 
   is-answered : answered at said bytes out ≡ Written u
   unfolding answerBy answerOn
@@ -202,22 +162,19 @@ module _ (t : Table) (small : Small t) (v n out : List ℕ) (u : ℕ) (h : answe
   rise : Rising m 0 (numbersOf es)
   rise = risen (exactFault t) v m walk
 
-  few : m ≤ 3
-  few = between-high 1 3 m (head .count)
-
   message : Message t 3 bytes (readingOf t n es)
   unfolding bytesBy messageOf bitmapsOf
   message =
       record {
-        four = four;
+        four = head .four;
         digits = head .digits;
         maps = bitmapsOf m es;
-        chained = maps-count (numbersOf es) m few (all-fields m rise) (between-low 1 3 m (head .count));
-        whole = maps-whole (numbersOf es) m few (all-fields m rise);
-        few = few;
+        chained = maps-count (numbersOf es) m (head .most) (all-fields m rise) (head .least);
+        whole = maps-whole (numbersOf es) m (head .most) (all-fields m rise);
+        few = head .most;
         body = bodyOf t v es;
         spelt = refl;
-        fields = rw (maps-fields (numbersOf es) m few (all-fields m rise) (ordered m rise)) (fields t small v m walk (4 + 8 * m));
+        fields = rw (maps-fields (numbersOf es) m (head .most) (all-fields m rise) (ordered m rise)) (fields t small v m walk (4 + 8 * m));
       }
 
   pub messages : Message t 3 (take u (outputBy (exactFault t) t v n out)) (readingOf t n es)
@@ -225,7 +182,7 @@ module _ (t : Table) (small : Small t) (v n out : List ℕ) (u : ℕ) (h : answe
 
   long : length (mtiIn n ++ bitmapsOf m es) ≡ 4 + 8 * m
   unfolding bitmapsOf
-  long = length-append (mtiIn n) (bitmapsOf m es) ∙ omega (arith, four, maps-whole (numbersOf es) m few (all-fields m rise))
+  long = length-append (mtiIn n) (bitmapsOf m es) ∙ omega (arith, head .four, maps-whole (numbersOf es) m (head .most) (all-fields m rise))
 
   pub alike : contentsIn (take u (outputBy (exactFault t) t v n out)) (moved t (4 + 8 * m) es) ≡ contentsIn v es
   unfolding bytesBy messageOf

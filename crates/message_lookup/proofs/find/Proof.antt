@@ -2,7 +2,8 @@
 use Prim.Native.Nat.{ℕ, _+_, _-_}
 use lib.ListN.{length}
 use Rattle.field_table.specs.House.{house}
-use Rattle.message_lookup.proofs.Finding.{judged-any, Finding, finding-first, finding-refused, finding-end, finding-here, finding-next, finding-room}
+use Rattle.message_walk.proofs.Ends.{judged-any}
+use Rattle.message_lookup.proofs.Finding.{Finding, finding-first, finding-refused, finding-end, finding-here, finding-next, finding-room}
 use borrow.Author.Needs.{needs}
 use native.Mathlib.Omega.{arith}
 use Rattle.message_lookup.proofs.find.Statement.{statement}

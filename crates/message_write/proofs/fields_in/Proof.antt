@@ -2,7 +2,8 @@
 use Prim.Native.Nat.{ℕ, _+_, _-_}
 use lib.ListN.{length}
 use Rattle.field_table.specs.House.{house}
-use Rattle.message_write.proofs.Passing.{judged-any, Putting, putting-first, putting-refused, putting-end, putting-next, putting-room}
+use Rattle.message_walk.proofs.Ends.{judged-any}
+use Rattle.message_write.proofs.Passing.{Putting, putting-first, putting-refused, putting-end, putting-next, putting-room}
 use borrow.Author.Needs.{needs}
 use native.Mathlib.Omega.{arith}
 use Rattle.message_write.proofs.fields_in.Statement.{statement}

@@ -2,7 +2,8 @@
 use Prim.Native.Nat.{ℕ, _+_, _-_}
 use lib.ListN.{length}
 use Rattle.field_table.specs.House.{house}
-use Rattle.message_write.proofs.Passing.{judged-any, Padding, padding-first, padding-refused, padding-end, padding-short, padding-long, padding-room}
+use Rattle.message_walk.proofs.Ends.{judged-any}
+use Rattle.message_write.proofs.Passing.{Padding, padding-first, padding-refused, padding-end, padding-short, padding-long, padding-room}
 use borrow.Author.Needs.{needs}
 use native.Mathlib.Omega.{arith}
 use Rattle.message_write.proofs.padded_in.Statement.{statement}
