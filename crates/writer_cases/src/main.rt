@@ -18,10 +18,12 @@ fn main() {
     run_more_whole_contents();
     run_wrong_heads();
     run_wrong_notes();
-    run_wrong_numbers();
+    run_numbers_no_field_has();
+    run_numbers_out_of_place();
     run_outside_values();
     run_wrong_contents();
-    run_wrong_lengths();
+    run_wrong_end_notes();
+    run_too_little_room();
 }
 
 // 01's worked messages: read, then written with the reader's notes. A message that is refused leaves no notes: 9.
@@ -244,8 +246,8 @@ fn run_wrong_notes() {
     run(b"9: end note cut", b"", b"\x010800\x01\x04\x00\x00\x00", 16);
 }
 
-// Wrong numbers: 10.
-fn run_wrong_numbers() {
+// Numbers that no field has, by the count of bitmaps: 10.
+fn run_numbers_no_field_has() {
     run(
         b"10: number 0",
         b"",
@@ -276,6 +278,10 @@ fn run_wrong_numbers() {
         b"\x010800\x03\x02\xC1\x00\x00\x00\x00\x00\x00\x04\x00\x00\x00\x1C",
         32,
     );
+}
+
+// A number not above the last, and 10 before 11.
+fn run_numbers_out_of_place() {
     run(
         b"10: the same number again",
         b"000042",
@@ -352,8 +358,8 @@ fn run_wrong_contents() {
     );
 }
 
-// Wrong lengths: 13, then 14.
-fn run_wrong_lengths() {
+// End notes that say another length than is to be written: 13, before 14.
+fn run_wrong_end_notes() {
     run(
         b"13: one too many",
         b"000042",
@@ -378,6 +384,10 @@ fn run_wrong_lengths() {
         b"\x010800\x01\x02\x03\x00\x00\x00\x00\x00\x06\x04\x00\x00\x00\x13",
         0,
     );
+}
+
+// Outputs too short: 14.
+fn run_too_little_room() {
     run(
         b"14: one byte too few",
         b"000042",
