@@ -11,7 +11,9 @@ use borrow.Author.Tests.{eq-eqb, ne-eqb, le-leb, lt-leb, leb-true}
 use Rattle.octets.specs.Lists.{both, between, all, lay, placed}
 use Rattle.octets.specs.Numbers.{isDigit}
 use Rattle.octets.proofs.Cases.{by-bool, by-eq, both-left, both-right, false-true}
-use Rattle.octets.proofs.Lists.{between-low, between-high, placed-short, placed-fits}
+use Rattle.octets.proofs.Lists.{between-high, placed-short, placed-fits}
+use Rattle.octets.proofs.Parts.{lay-part, placed-part}
+use borrow.Rule.Slice.PartMut.{midOf, putMid}
 use Rattle.refusal.specs.Numbers.{noteMalformed, mtiNotDigits, endDiffers, outputTooShort}
 use Rattle.refusal.specs.Refusals.{refusal, plain}
 use Rattle.refusal.specs.declared.Refusal.{Refusal}
@@ -42,6 +44,9 @@ unfolding mapsFor
 maps-long m s h =
     length-append (bytesOf (mapBit m s) (8 * m) 1) (replicate (24 - 8 * m) 0)
     ∙ omega (arith, bytes-long (mapBit m s) (8 * m) 1, length-replicate {A = ℕ} (24 - 8 * m) 0)
+
+pub made-long : (made s : List ℕ) (m : ℕ) → made ≡ mapsFor m s → m ≤ 3 → length made ≡ 24
+made-long made s m e h = ap length e ∙ maps-long m s h
 
 pub bitmaps-long : (m : ℕ) (es : List Entry) → m ≤ 3 → length (bitmapsOf m es) ≡ 8 * m
 unfolding bitmapsOf
@@ -181,18 +186,46 @@ module _ (p : Test) (t : Table) (v n d : List ℕ) where
       let w = written-ended k h in
       rw (paddedBy, h) (e ∙ ap (λ (es : List Entry). setOf (shortIn t es)) (weaker-entries p any (λ f c z. refl) v n (w .0) (w .1 .0) (w .1 .1)))
 
--- `write_message`: the bytes of the bitmaps that were made
-pub maps-taken : (made bytes bits : List ℕ) (c m : ℕ) (es es′ : List Entry) → c ≡ m → m ≤ 3 → made ≡ bytes → bytes ≡ mapsFor (min c 3) bits
-    → bits ≡ setOf (numbersOf es′) → es′ ≡ es → take (8 * c - 0) made ≡ bitmapsOf m es
-unfolding bitmapsOf
-maps-taken made bytes bits c m es es′ hc h e1 e2 e3 e4 =
-    let k : min c 3 ≡ m = omega arith in
-    let z : 8 * c - 0 ≡ 8 * m = omega arith in
-    rw (e1, e2, e3, e4, k, z)
+-- `write_message`: what it is asked, of the values v, the notes n and the output d
+pub record Asked (t : Table) (v n d : List ℕ) : Type 0 where
+  pub head : headNumber n ≡ 0
+  pub named : entriesIn any v n ≡ entriesIn (testOf t Clean) v n
+  pub room : length (messageOf t v (mtiIn n) (countIn n) (entriesIn (testOf t Clean) v n)) ≤ length d
 
-pub made-long : (made bytes bits : List ℕ) (c : ℕ) → made ≡ bytes → bytes ≡ mapsFor (min c 3) bits → length made ≡ 24
-made-long made bytes bits c e1 e2 = ap length (e1 ∙ e2) ∙ maps-long (min c 3) bits (omega arith)
+module _ (t : Table) (v n d : List ℕ) (asked : Asked t v n d) where
+  abbrev m : ℕ
+  m = countIn n
 
-pub message-parts : (t : Table) (v mti b : List ℕ) (m : ℕ) (es : List Entry) (d : List ℕ) → b ≡ bitmapsOf m es → lay ((mti ++ b) ++ bodyOf t v es) d ≡ lay (messageOf t v mti m es) d
-unfolding messageOf
-message-parts t v mti b m es d e = rw (e, append-assoc mti (bitmapsOf m es) (bodyOf t v es))
+  abbrev es : List Entry
+  es = entriesIn (testOf t Clean) v n
+
+  pub asked-room : (m ≤ 3) × (4 + 8 * m + length (bodyOf t v es) ≤ length d)
+  asked-room =
+      let three = count-three n (asked .head) in
+      (three, omega (arith, message-long t v (mtiIn n) m es (mti-four n (asked .head)) three, asked .room))
+
+  -- the count is k, and maps are the bitmaps made for the set bits
+  module _ (k : ℕ) (counted : k ≡ m) (maps bits : List ℕ) (made : maps ≡ mapsFor (min k 3) bits) (set : bits ≡ setOf (numbersOf (entriesIn any v n))) where
+    maps-are : take (8 * k - 0) maps ≡ bitmapsOf m es
+    unfolding bitmapsOf
+    maps-are =
+        let least : min k 3 ≡ m = omega (arith, asked-room) in
+        let all : 8 * k - 0 ≡ 8 * m = omega arith in
+        rw (made, set, asked .named, least, all)
+
+    -- the output is e once the MTI is written, and f and g are its rests once the bitmaps and the fields are written there
+    pub message-written :
+        (e f g : List ℕ) →
+        e ≡ placed (mtiIn n) d →
+        f ≡ placed (take (8 * k - 0) maps) (midOf 4 (length e - 4) e) →
+        g ≡ lay (bodyOf t v es) (midOf (4 + 8 * k) (length (putMid 4 (length e - 4) e f) - (4 + 8 * k)) (putMid 4 (length e - 4) e f)) →
+        putMid (4 + 8 * k) (length (putMid 4 (length e - 4) e f) - (4 + 8 * k)) (putMid 4 (length e - 4) e f) g ≡ lay (messageOf t v (mtiIn n) m es) d
+    unfolding messageOf
+    message-written e f g he hf hg =
+        let four = mti-four n (asked .head) in
+        let long = bitmaps-long m es (asked-room .0) in
+        let mti : e ≡ lay (mtiIn n) d = he ∙ placed-fits (mtiIn n) d 4 four (omega (arith, asked-room)) in
+        let front : putMid 4 (length e - 4) e f ≡ lay (mtiIn n ++ bitmapsOf m es) d =
+        placed-part (mtiIn n) (bitmapsOf m es) d e f 4 mti four (omega (arith, long, asked-room)) (hf ∙ ap (λ (b : List ℕ). placed b (midOf 4 (length e - 4) e)) maps-are) in
+        lay-part (mtiIn n ++ bitmapsOf m es) (bodyOf t v es) d _ g (4 + 8 * k) front (omega (arith, length-append (mtiIn n) (bitmapsOf m es), four, long, counted)) hg
+        ∙ rw (append-assoc (mtiIn n) (bitmapsOf m es) (bodyOf t v es))

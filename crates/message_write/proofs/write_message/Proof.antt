@@ -1,20 +1,43 @@
--- MTI, bitmaps and fields are laid one behind the other.
-use mathlib.Core.Path.{ap, _∙_}
-use mathlib.Core.List.{_++_}
-use Prim.Native.Nat.{_+_, _*_, _-_}
-use lib.ListN.{length, take, length-drop, length-take, length-append}
-use Rattle.octets.proofs.Lists.{lay-length, placed-fits}
-use Rattle.octets.proofs.Parts.{lay-part, placed-part}
+-- MTI, bitmaps and fields are laid one behind the other (`message-written`). The bounds of the parts need nothing of the bytes:
+-- the output stays as long as it was.
+use mathlib.Core.Path.{_≡_, _∙_}
+use Prim.Native.Nat.{ℕ, _+_, _*_, _≤_}
+use lib.ListN.{length, length-drop, length-take}
 use Rattle.field_table.specs.House.{house}
 use Rattle.message_walk.specs.declared.Rule.the-variants.{Clean}
-use Rattle.message_walk.specs.Walk.{countIn, mtiIn, entriesIn}
+use Rattle.message_walk.specs.Walk.{entriesIn}
 use Rattle.message_walk.specs.Answers.{testOf}
 use Rattle.message_write.specs.Written.{bodyOf}
-use Rattle.message_write.proofs.Answering.{message-long, bitmaps-long, head-whole, count-three, mti-four, maps-taken, made-long, message-parts}
+use Rattle.message_write.proofs.Answering.{Asked, head-whole, made-long, asked-room, message-written}
 use borrow.Author.Needs.{needs}
 use native.Mathlib.Omega.{arith}
 use Rattle.message_write.proofs.write_message.Statement.{statement}
 use Rattle.message_write.proofs.write_message.Tie as tie
+
+asked-at : (s : tie.Start) → Asked house (s .args .values .now) (s .args .notes .now) (s .args .out .now)
+asked-at s = record { head = s .pre .0; named = s .pre .1 .0; room = s .pre .1 .1 }
+
+abbrev start : tie.After-to-bytes → tie.Start
+start c = c .before .before .before .before .before .before .before
+
+abbrev count : tie.After-to-bytes → ℕ
+count c = c .before .before .before .count-in .result
+
+room-at :
+    (c : tie.After-to-bytes) →
+    (count c ≤ 3)
+    × (4 + 8 * count c + length (bodyOf house (start c .args .values .now) (entriesIn (testOf house Clean) (start c .args .values .now) (start c .args .notes .now))) ≤ length (start c .args .out .now))
+room-at c = omega (arith, c .before .before .before .count-in .ensures, asked-room house _ _ _ (asked-at (start c)))
+
+-- the MTI is written, and then the bitmaps
+abbrev begun : tie.After-put-arg3 → tie.After-to-bytes
+begun c = c .before .before .before .before .before .before .before
+
+abbrev headed : tie.After-slice-known3 → tie.After-put-arg3
+headed c = c .before .before .before .before
+
+size-at : (c : tie.After-put-arg3) → length (c .before .before .before .before .put .last .1 .0) ≡ length (start (begun c) .args .out .now)
+size-at c = c .before .before .before .out .given
 
 count-in-requires : tie.Need-count-in-requires
 count-in-requires c κs = search needs
@@ -29,44 +52,10 @@ to-bytes-requires : tie.Need-to-bytes-requires
 to-bytes-requires c κs = search needs
 
 mul-size : tie.Need-mul-size
-mul-size c =
-    let tb = c in
-    let st = tb .before .before .before .before .before .before .before in
-    let a = st .args in
-    let v = a .values .now in
-    let n = a .notes .now in
-    let d = a .out .now in
-    let m = countIn n in
-    let es = entriesIn (testOf house Clean) v n in
-    let three = count-three n (st .pre .0) in
-    let four = mti-four n (st .pre .0) in
-    let whole = head-whole n (st .pre .0) in
-    let counted = tb .before .before .before .count-in .ensures in
-    let made = tb .to-bytes .ensures in
-    let bytes = tb .before .of .ensures .1 in
-    let long = message-long house v (mtiIn n) m es four three in
-    let room = st .pre .1 .1 in
-    omega arith
+mul-size c = omega (arith, room-at c)
 
 add-start : tie.Need-add-start
-add-start c =
-    let tb = c in
-    let st = tb .before .before .before .before .before .before .before in
-    let a = st .args in
-    let v = a .values .now in
-    let n = a .notes .now in
-    let d = a .out .now in
-    let m = countIn n in
-    let es = entriesIn (testOf house Clean) v n in
-    let three = count-three n (st .pre .0) in
-    let four = mti-four n (st .pre .0) in
-    let whole = head-whole n (st .pre .0) in
-    let counted = tb .before .before .before .count-in .ensures in
-    let made = tb .to-bytes .ensures in
-    let bytes = tb .before .of .ensures .1 in
-    let long = message-long house v (mtiIn n) m es four three in
-    let room = st .pre .1 .1 in
-    omega arith
+add-start c = omega (arith, room-at c)
 
 sub-put : tie.Need-sub-put
 sub-put c = search needs
@@ -75,24 +64,7 @@ part-put-start : tie.Need-part-put-start
 part-put-start c = search needs
 
 part-put-end : tie.Need-part-put-end
-part-put-end c =
-    let tb = c in
-    let st = tb .before .before .before .before .before .before .before in
-    let a = st .args in
-    let v = a .values .now in
-    let n = a .notes .now in
-    let d = a .out .now in
-    let m = countIn n in
-    let es = entriesIn (testOf house Clean) v n in
-    let three = count-three n (st .pre .0) in
-    let four = mti-four n (st .pre .0) in
-    let whole = head-whole n (st .pre .0) in
-    let counted = tb .before .before .before .count-in .ensures in
-    let made = tb .to-bytes .ensures in
-    let bytes = tb .before .of .ensures .1 in
-    let long = message-long house v (mtiIn n) m es four three in
-    let room = st .pre .1 .1 in
-    omega arith
+part-put-end c = omega (arith, head-whole _ (start c .pre .0))
 
 put-requires : tie.Need-put-requires
 put-requires c κs = search needs
@@ -105,65 +77,14 @@ part-put-start-2 c = search needs
 
 part-put-end-2 : tie.Need-part-put-end-2
 part-put-end-2 c =
-    let tb = c .before .before .before .before .before .before in
-    let st = tb .before .before .before .before .before .before .before in
-    let a = st .args in
-    let v = a .values .now in
-    let n = a .notes .now in
-    let d = a .out .now in
-    let m = countIn n in
-    let es = entriesIn (testOf house Clean) v n in
-    let three = count-three n (st .pre .0) in
-    let four = mti-four n (st .pre .0) in
-    let whole = head-whole n (st .pre .0) in
-    let counted = tb .before .before .before .count-in .ensures in
-    let made = tb .to-bytes .ensures in
-    let bytes = tb .before .of .ensures .1 in
-    let long = message-long house v (mtiIn n) m es four three in
-    let room = st .pre .1 .1 in
-    omega (arith, made-long _ _ _ _ made bytes)
+    let k = c .before .before .before .before .before .before in
+    omega (arith, room-at k, made-long _ _ _ (k .to-bytes .ensures ∙ k .before .of .ensures .1) (omega arith))
 
 sub-put-3 : tie.Need-sub-put-3
-sub-put-3 c =
-    let tb = c .before .before .before .before .before .before .before in
-    let st = tb .before .before .before .before .before .before .before in
-    let a = st .args in
-    let v = a .values .now in
-    let n = a .notes .now in
-    let d = a .out .now in
-    let m = countIn n in
-    let es = entriesIn (testOf house Clean) v n in
-    let three = count-three n (st .pre .0) in
-    let four = mti-four n (st .pre .0) in
-    let whole = head-whole n (st .pre .0) in
-    let counted = tb .before .before .before .count-in .ensures in
-    let made = tb .to-bytes .ensures in
-    let bytes = tb .before .of .ensures .1 in
-    let long = message-long house v (mtiIn n) m es four three in
-    let room = st .pre .1 .1 in
-    let o1 = c .before .before .before .before .put .ensures ∙ placed-fits (mtiIn n) d 4 four (omega arith) in
-    omega (arith, ap length o1 ∙ lay-length (mtiIn n) d (omega arith))
+sub-put-3 c = omega (arith, room-at (begun c), size-at c)
 
 part-put-start-3 : tie.Need-part-put-start-3
-part-put-start-3 c =
-    let tb = c .before .before .before .before .before .before .before in
-    let st = tb .before .before .before .before .before .before .before in
-    let a = st .args in
-    let v = a .values .now in
-    let n = a .notes .now in
-    let d = a .out .now in
-    let m = countIn n in
-    let es = entriesIn (testOf house Clean) v n in
-    let three = count-three n (st .pre .0) in
-    let four = mti-four n (st .pre .0) in
-    let whole = head-whole n (st .pre .0) in
-    let counted = tb .before .before .before .count-in .ensures in
-    let made = tb .to-bytes .ensures in
-    let bytes = tb .before .of .ensures .1 in
-    let long = message-long house v (mtiIn n) m es four three in
-    let room = st .pre .1 .1 in
-    let o1 = c .before .before .before .before .put .ensures ∙ placed-fits (mtiIn n) d 4 four (omega arith) in
-    omega (arith, ap length o1 ∙ lay-length (mtiIn n) d (omega arith))
+part-put-start-3 c = omega (arith, room-at (begun c), size-at c)
 
 part-put-end-3 : tie.Need-part-put-end-3
 part-put-end-3 c = search needs
@@ -172,124 +93,32 @@ put-requires-2 : tie.Need-put-requires-2
 put-requires-2 c κs = search needs
 
 sub-write-body : tie.Need-sub-write-body
-sub-write-body c =
-    let sk3 = c in
-    let sk2 = sk3 .before .before .before .before .before .before in
-    let tb = sk2 .before .before .before .before .before in
-    let st = tb .before .before .before .before .before .before .before in
-    let a = st .args in
-    let v = a .values .now in
-    let n = a .notes .now in
-    let d = a .out .now in
-    let m = countIn n in
-    let es = entriesIn (testOf house Clean) v n in
-    let three = count-three n (st .pre .0) in
-    let four = mti-four n (st .pre .0) in
-    let whole = head-whole n (st .pre .0) in
-    let counted = tb .before .before .before .count-in .ensures in
-    let made = tb .to-bytes .ensures in
-    let bytes = tb .before .of .ensures .1 in
-    let long = message-long house v (mtiIn n) m es four three in
-    let room = st .pre .1 .1 in
-    let o1 = sk2 .before .before .put .ensures ∙ placed-fits (mtiIn n) d 4 four (omega arith) in
-    let maps = maps-taken _ _ _ _ m es _ counted three made bytes (tb .before .before .fields-in .ensures) (st .pre .1 .0) in
-    let sized = ap length maps ∙ bitmaps-long m es three in
-    let mb = take (8 * (tb .before .before .before .count-in .result) - 0) (tb .to-bytes .result) in
-    let o2 = placed-part (mtiIn n) mb d _ _ 4 o1 four (omega arith) (sk3 .before .before .put2 .ensures) in
-    let front = length-append (mtiIn n) mb in
-    omega (arith, ap length o2 ∙ lay-length (mtiIn n ++ mb) d (omega arith))
+sub-write-body c = omega (arith, room-at (begun (headed c)), size-at (headed c), c .before .out2 .given)
 
 part-write-body-start : tie.Need-part-write-body-start
-part-write-body-start c =
-    let sk3 = c in
-    let sk2 = sk3 .before .before .before .before .before .before in
-    let tb = sk2 .before .before .before .before .before in
-    let st = tb .before .before .before .before .before .before .before in
-    let a = st .args in
-    let v = a .values .now in
-    let n = a .notes .now in
-    let d = a .out .now in
-    let m = countIn n in
-    let es = entriesIn (testOf house Clean) v n in
-    let three = count-three n (st .pre .0) in
-    let four = mti-four n (st .pre .0) in
-    let whole = head-whole n (st .pre .0) in
-    let counted = tb .before .before .before .count-in .ensures in
-    let made = tb .to-bytes .ensures in
-    let bytes = tb .before .of .ensures .1 in
-    let long = message-long house v (mtiIn n) m es four three in
-    let room = st .pre .1 .1 in
-    let o1 = sk2 .before .before .put .ensures ∙ placed-fits (mtiIn n) d 4 four (omega arith) in
-    let maps = maps-taken _ _ _ _ m es _ counted three made bytes (tb .before .before .fields-in .ensures) (st .pre .1 .0) in
-    let sized = ap length maps ∙ bitmaps-long m es three in
-    let mb = take (8 * (tb .before .before .before .count-in .result) - 0) (tb .to-bytes .result) in
-    let o2 = placed-part (mtiIn n) mb d _ _ 4 o1 four (omega arith) (sk3 .before .before .put2 .ensures) in
-    let front = length-append (mtiIn n) mb in
-    omega (arith, ap length o2 ∙ lay-length (mtiIn n ++ mb) d (omega arith))
+part-write-body-start c = omega (arith, room-at (begun (headed c)), size-at (headed c), c .before .out2 .given)
 
 part-write-body-end : tie.Need-part-write-body-end
 part-write-body-end c = search needs
 
 write-body-requires : tie.Need-write-body-requires
 write-body-requires c κs =
-    let sk3 = c .before in
-    let sk2 = sk3 .before .before .before .before .before .before in
-    let tb = sk2 .before .before .before .before .before in
-    let st = tb .before .before .before .before .before .before .before in
-    let a = st .args in
-    let v = a .values .now in
-    let n = a .notes .now in
-    let d = a .out .now in
-    let m = countIn n in
-    let es = entriesIn (testOf house Clean) v n in
-    let three = count-three n (st .pre .0) in
-    let four = mti-four n (st .pre .0) in
-    let whole = head-whole n (st .pre .0) in
-    let counted = tb .before .before .before .count-in .ensures in
-    let made = tb .to-bytes .ensures in
-    let bytes = tb .before .of .ensures .1 in
-    let long = message-long house v (mtiIn n) m es four three in
-    let room = st .pre .1 .1 in
-    let o1 = sk2 .before .before .put .ensures ∙ placed-fits (mtiIn n) d 4 four (omega arith) in
-    let maps = maps-taken _ _ _ _ m es _ counted three made bytes (tb .before .before .fields-in .ensures) (st .pre .1 .0) in
-    let sized = ap length maps ∙ bitmaps-long m es three in
-    let mb = take (8 * (tb .before .before .before .count-in .result) - 0) (tb .to-bytes .result) in
-    let o2 = placed-part (mtiIn n) mb d _ _ 4 o1 four (omega arith) (sk3 .before .before .put2 .ensures) in
-    let front = length-append (mtiIn n) mb in
-    let l2 = ap length o2 ∙ lay-length (mtiIn n ++ mb) d (omega arith) in
-    (whole, simp (length-take, length-drop) (omega arith))
+    let k = headed (c .before) in
+    (head-whole _ (start (begun k) .pre .0), omega (arith, room-at (begun k), size-at k, c .before .before .out2 .given, c .write-body-arg .given .1))
 
 same-length : tie.Need-same-length
 same-length c = search needs
 
 returns : tie.Need-returns
 returns c =
-    let sk3 = c .before .before .before .before in
-    let sk2 = sk3 .before .before .before .before .before .before in
-    let tb = sk2 .before .before .before .before .before in
-    let st = tb .before .before .before .before .before .before .before in
-    let a = st .args in
-    let v = a .values .now in
-    let n = a .notes .now in
-    let d = a .out .now in
-    let m = countIn n in
-    let es = entriesIn (testOf house Clean) v n in
-    let three = count-three n (st .pre .0) in
-    let four = mti-four n (st .pre .0) in
-    let whole = head-whole n (st .pre .0) in
-    let counted = tb .before .before .before .count-in .ensures in
-    let made = tb .to-bytes .ensures in
-    let bytes = tb .before .of .ensures .1 in
-    let long = message-long house v (mtiIn n) m es four three in
-    let room = st .pre .1 .1 in
-    let o1 = sk2 .before .before .put .ensures ∙ placed-fits (mtiIn n) d 4 four (omega arith) in
-    let maps = maps-taken _ _ _ _ m es _ counted three made bytes (tb .before .before .fields-in .ensures) (st .pre .1 .0) in
-    let sized = ap length maps ∙ bitmaps-long m es three in
-    let mb = take (8 * (tb .before .before .before .count-in .result) - 0) (tb .to-bytes .result) in
-    let o2 = placed-part (mtiIn n) mb d _ _ 4 o1 four (omega arith) (sk3 .before .before .put2 .ensures) in
-    let front = length-append (mtiIn n) mb in
-    lay-part (mtiIn n ++ mb) (bodyOf house v es) d _ _ _ o2 (omega arith) (c .before .before .write-body .ensures)
-    ∙ message-parts house v (mtiIn n) mb m es d maps
+    let h = c .before .before .before .before in
+    let k = begun (headed h) in
+    message-written house _ _ _ (asked-at (start k)) (count k) (k .before .before .before .count-in .ensures) _ _ (k .to-bytes .ensures ∙ k .before .of .ensures .1)
+    (k .before .before .fields-in .ensures)
+    _ _ _
+    (headed h .before .before .before .before .put .ensures)
+    (h .before .before .put2 .ensures)
+    (c .before .before .write-body .ensures)
 
 pub write-message-spec : {M : Type 1} → statement M
 write-message-spec =
