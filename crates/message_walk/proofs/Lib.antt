@@ -4,3 +4,4 @@ pub mod Heads
 pub mod Steps
 pub mod Weaker
 pub mod Written
+pub mod Answered
