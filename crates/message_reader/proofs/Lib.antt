@@ -6,4 +6,3 @@ pub mod Language
 pub mod Noting
 pub mod Small
 pub mod Turns
-pub mod Worked

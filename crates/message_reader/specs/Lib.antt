@@ -1,3 +1,2 @@
 pub mod Demand3
 pub mod Reader
-pub mod Worked
