@@ -1,96 +1,248 @@
--- Cleaning agrees with exact writing wherever the exact writer writes. Assumes nothing.
-use Prim.Native.Nat.{ℕ, _+_, _≤_}
+-- The cleaning writer beside the exact one: alike where nothing is short, and else it pads the short fixed fields and names exactly those.
+-- Assumes nothing.
+use Prim.Native.Nat.{ℕ, _+_, _<_}
 use mathlib.Core.Path.{_≡_, refl, sym, ap, _∙_}
-use mathlib.Core.Bool.{Bool, true, false, cond}
-use mathlib.Core.List.{List, [], _∷_, _++_}
+use mathlib.Core.Bool.{Bool, true, false}
+use mathlib.Core.List.{List, [], _∷_, _++_, append-nil}
 use native.Mathlib.Omega.{arith}
-use lib.ListN.{length, take, drop, length-drop}
+use lib.Dec.{eqb, ltb}
+use lib.ListN.{length, drop, replicate, length-drop, length-append}
 use lib.Seq.{length-take-le}
-use Rattle.octets.specs.Numbers.{decimal}
+use borrow.Author.Tests.{eq-eqb, ne-eqb, eqb-true, lt-ltb, ltb-true}
+use Rattle.octets.specs.Lists.{either, all}
+use Rattle.octets.proofs.Cases.{false-true, by-bool, by-eq, by-le, both-left, both-right}
 use Rattle.refusal.specs.declared.Output.the-variants.{Written}
 use Rattle.field_table.specs.Table.{Table}
 use Rattle.field_table.specs.House.{house}
-use Rattle.field_write.specs.Fields.{exactFault, cleanFault, isShort, fieldBytes}
-use Rattle.field_write.proofs.Allowed.{exact-is-clean, exact-not-short}
-use Rattle.field_write.proofs.Cleaned.{before, after, content-stands, not-short-whole}
-use Rattle.bitmap.specs.Bitmaps.{noFields, setOf, setFrom}
-use Rattle.bitmap.proofs.Sets.{set-is}
-use Rattle.message_language.specs.Language.{Entry}
-use Rattle.message_walk.specs.Walk.{Test, countIn, mtiIn, contentOf, ends, walked, entriesIn}
-use Rattle.message_walk.proofs.Folds.{AllGood}
-use Rattle.message_walk.proofs.Weaker.{weaker-walked, weaker-entries}
-use Rattle.message_write.specs.Written.{messageOf, shortIn, bytesBy, answerOn, outputOn, answerBy, outputBy, paddedOn, paddedBy}
-use Rattle.message_write.proofs.Passing.{entries-good}
-use Rattle.message_write.proofs.Answering.{written-ended}
-use Rattle.round_trip.specs.RoundTrip.{AgreesWithExact}
+use Rattle.field_table.proofs.Rows.{Small, house-small}
+use Rattle.field_write.specs.Fields.{exactFault, cleanFault, isShort, missing, padByte, padsLeft, padded, cleaned}
+use Rattle.field_write.proofs.Allowed.{exact-is-clean, exact-not-short, not-short-exact}
+use Rattle.field_write.proofs.Cleaned.{not-short-whole, cleaned-exact}
+use Rattle.bitmap.specs.Bits.{bitOf}
+use Rattle.bitmap.specs.Bitmaps.{isField, isIn, noFields, setOf, setFrom}
+use Rattle.bitmap.proofs.Bits.{bit-zero, bit-past}
+use Rattle.bitmap.proofs.Maps.{low-no-field, high-no-field}
+use Rattle.bitmap.proofs.Sets.{none-is, from-is, bit-set, set-is}
+use Rattle.message_language.specs.Language.{Entry, entry}
+use Rattle.message_walk.specs.Walk.{Test, countIn, mtiIn, contentOf, walked, entriesIn}
+use Rattle.message_walk.proofs.Steps.{Good}
+use Rattle.message_walk.proofs.Weaker.{Clear, clear-walked, clear-entries, weaker-clear}
+use Rattle.message_walk.proofs.Written.{Walkable, none, more}
+use Rattle.message_write.specs.Written.{messageOf, shortIn, bytesBy, answerBy, outputBy, paddedOn, paddedBy}
+use Rattle.message_write.proofs.Answering.{padded-refused}
+use Rattle.round_trip.specs.RoundTrip.{Content, content, contentsIn, contentsBy, cleanedIn, Short, AgreesWithExact, PadsShortAlone}
+use Rattle.round_trip.proofs.Made.{is-field, no-member}
+use Rattle.round_trip.proofs.Rereading.{at, said, ended, walk, written, reads-as, exact-written, clean-written}
 
--- entries that the exact writer takes are not short
-none-short : (t : Table) (v : List ℕ) (m : ℕ) (es : List Entry) → AllGood (exactFault t) v m es → shortIn t es ≡ []
-unfolding AllGood shortIn
-none-short t v m [] a = refl
-none-short t v m (e ∷ es) a =
-    let g = a .0 .1 in
-    let l : length (contentOf v (e .offset) (e .size)) ≡ e .size = length-take-le (e .size) (drop (e .offset) v) (omega (arith, length-drop (e .offset) v, g .inside)) in
-    let q : isShort t (e .number) (e .size) ≡ false = ap (isShort t (e .number)) (sym l) ∙ exact-not-short t (e .number) (contentOf v (e .offset) (e .size)) (g .ruled) in
-    rw q (none-short t v m es (a .1))
+-- a content is short where its field is fixed and it is under the table's length
+module _ (t : Table) (f n : ℕ) where
+  short-fixed : isShort t f n ≡ true → t .width f ≡ 0
+  unfolding isShort
+  short-fixed y = eqb-true (t .width f) 0 (both-left (eqb (t .width f) 0) (ltb n (t .most f)) y)
+
+  short-under : isShort t f n ≡ true → n < t .most f
+  unfolding isShort
+  short-under y = ltb-true n (t .most f) (both-right (eqb (t .width f) 0) (ltb n (t .most f)) y)
+
+  is-short : t .width f ≡ 0 → n < t .most f → isShort t f n ≡ true
+  unfolding isShort
+  is-short z l = rw (eq-eqb (t .width f) 0 z, lt-ltb n (t .most f) l)
+
+-- Where q finds nothing in what a writer by the test p takes, a writer by q does the same.
+module _ (p q : Test) (t : Table) (v n out : List ℕ) (u : ℕ) (h : answerBy p t v n out ≡ Written u) (clear : Clear q v (entriesIn p v n)) where
+  walks : walked q v n ≡ walked p v n
+  walks = clear-walked p q v n (at p t v n out u h) (said p t v n out u h) (ended p t v n out u h) clear ∙ sym (ended p t v n out u h)
+
+  pub entries-alike : entriesIn q v n ≡ entriesIn p v n
+  entries-alike = clear-entries p q v n (at p t v n out u h) (said p t v n out u h) (ended p t v n out u h) clear
+
+  bytes : bytesBy q t v n ≡ bytesBy p t v n
+  unfolding bytesBy
+  bytes = ap (messageOf t v (mtiIn n) (countIn n)) entries-alike
+
+  pub answers-alike : answerBy q t v n out ≡ Written u
+  unfolding answerBy
+  answers-alike = rw (walks, bytes) h
+
+  pub writes-alike : outputBy q t v n out ≡ outputBy p t v n out
+  unfolding outputBy
+  writes-alike = rw (walks, bytes)
+
+-- The short fields among entries that pass: in the list of their numbers exactly the numbers that are Short.
+module _ (p : Test) (t : Table) (v : List ℕ) (m : ℕ) where
+  sized : {last : ℕ} (f a n : ℕ) → Good p v m last f a n → length (contentOf v a n) ≡ n
+  sized f a n g = length-take-le n (drop a v) (omega (arith, length-drop a v, g .inside))
+
+  short-fields : {last : ℕ} {es : List Entry} → Walkable p v m last es → all isField (shortIn t es) ≡ true
+  unfolding shortIn
+  short-fields none = refl
+  short-fields {last} (more {f = f} {n = n} g w) =
+      by-bool (isShort t f n) (λ y. rw (y, is-field m last f (g .allowed)) (short-fields w)) (λ x. rw x (short-fields w))
+
+  here : {last : ℕ} (f a n : ℕ) (es : List Entry) → Good p v m last f a n → isShort t f n ≡ true → Short t f (contentsIn v (entry f a n ∷ es))
+  unfolding contentsIn
+  here {last} f a n es g y =
+      record {
+        before = [];
+        bytes = contentOf v a n;
+        after = contentsIn v es;
+        is = refl;
+        fixed = short-fixed t f n y;
+        short = omega (arith, sized {last = last} f a n g, short-under t f n y);
+      }
+
+  later : (g f a n : ℕ) (es : List Entry) → Short t f (contentsIn v es) → Short t f (contentsIn v (entry g a n ∷ es))
+  unfolding contentsIn
+  later g f a n es x =
+      record {
+        before = content g (contentOf v a n) ∷ x .before;
+        bytes = x .bytes;
+        after = x .after;
+        is = ap (λ (l : List Content). content g (contentOf v a n) ∷ l) (x .is);
+        fixed = x .fixed;
+        short = x .short;
+      }
+
+  listed-short : {last : ℕ} {es : List Entry} → Walkable p v m last es → (f : ℕ) → isIn f (shortIn t es) ≡ true → Short t f (contentsIn v es)
+  unfolding shortIn
+  listed-short none f y = absurd (false-true y)
+  listed-short {last} (more {f = g} {a = a} {n = n} {es = es} x w) f y =
+      by-bool (isShort t g n)
+      (λ s. by-eq g f
+      (λ e. rw (← e) (here {last = last} g a n es x s))
+      (λ d. later g f a n es (listed-short w f (rw (s, ne-eqb g f d) at y))))
+      (λ s. later g f a n es (listed-short w f (rw s at y)))
+
+  either-true : (a : Bool) → either a true ≡ true
+  either-true true = refl
+  either-true false = refl
+
+  not-none : (before : List Content) (c : Content) (after : List Content) → [] ≡ before ++ (c ∷ after) → ⊥
+  not-none before c after h = omega (arith, ap length h, length-append before (c ∷ after))
+
+  short-listed : {last : ℕ} {es : List Entry} → Walkable p v m last es → (f : ℕ) (before : List Content) (c : List ℕ) (after : List Content)
+      → contentsIn v es ≡ before ++ (content f c ∷ after) → isShort t f (length c) ≡ true → isIn f (shortIn t es) ≡ true
+  unfolding shortIn contentsIn
+  short-listed none f before c after e y = absurd (not-none before (content f c) after e)
+  short-listed {last} (more {f = g} {a = a} {n = n} x w) f [] c after e y =
+      let i : content g (contentOf v a n) ≡ content f c = cc in
+      let j : g ≡ f = ap (λ (z : Content). z .number) i in
+      let k : n ≡ length c = sym (sized {last = last} g a n x) ∙ ap (λ (z : Content). length (z .bytes)) i in
+      let s : isShort t g n ≡ true = rw (j, k) y in
+      rw (s, eq-eqb g f j)
+  short-listed (more {f = g} {a = a} {n = n} {es = es} x w) f (d ∷ before) c after e y =
+      let i : contentsIn v es ≡ before ++ (content f c ∷ after) = cc in
+      let r = short-listed w f before c after i y in
+      by-bool (isShort t g n) (λ s. rw (s, r) (either-true (eqb g f))) (λ s. rw s r)
+
+  -- where none is short, the exact writer takes all that the cleaning writer takes
+  none-short : {last : ℕ} {es : List Entry} → Walkable p v m last es → ((f : ℕ) (c : List ℕ) → p f c ≡ 0 → cleanFault t f c ≡ 0)
+      → ((f : ℕ) → Short t f (contentsIn v es) → ⊥) → Clear (exactFault t) v es
+  unfolding Clear
+  none-short none weak no-short = tt
+  none-short {last} (more {f = f} {a = a} {n = n} {es = es} g w) weak no-short =
+      by-bool (isShort t f n)
+      (λ y. absurd (no-short f (here {last = last} f a n es g y)))
+      (λ s. (
+        not-short-exact t f (contentOf v a n) (rw (sized {last = last} f a n g) s) (weak f (contentOf v a n) (g .ruled)),
+        none-short w weak (λ h x. no-short h (later f h a n es x)),
+      ))
+
+-- a set has the bits of its fields, and no others
+set-bit : (fs : List ℕ) (f : ℕ) → all isField fs ≡ true → bitOf (setOf fs) f ≡ isIn f fs
+set-bit fs f a =
+    let e = set-is fs a in
+    let l : length (setOf fs) ≡ 24 = ap length (sym e) ∙ from-is fs noFields none-is .long in
+    by-eq f 0
+    (λ z. sym (bit-zero (setOf fs) f z) ∙ sym (no-member fs f a (sym (low-no-field f (omega arith)))))
+    (λ d. by-le f 192
+    (λ b. ap (λ (s : List ℕ). bitOf s f) (sym e) ∙ bit-set fs f a (omega arith) b)
+    (λ b. sym (bit-past (setOf fs) f d (omega arith)) ∙ sym (no-member fs f a (sym (high-no-field f (omega arith) b)))))
 
 no-fields : setOf [] ≡ noFields
 unfolding setFrom
 no-fields = sym (set-is [] refl)
 
-module _ (t : Table) (v n out : List ℕ) (u : ℕ) (h : answerBy (exactFault t) t v n out ≡ Written u) where
-  at : ℕ
-  at = written-ended (exactFault t) t v n out u h .0
+-- The cleaning writer.
+module _ (t : Table) (v n out : List ℕ) (u : ℕ) (h : answerBy (cleanFault t) t v n out ≡ Written u) where
+  abbrev es : List Entry
+  es = entriesIn (cleanFault t) v n
 
-  said : ℕ
-  said = written-ended (exactFault t) t v n out u h .1 .0
+  passes : Walkable (cleanFault t) v (countIn n) 0 es
+  passes = walk (cleanFault t) t v n out u h
 
-  ended : walked (exactFault t) v n ≡ ends at said
-  unfolding at said
-  ended = written-ended (exactFault t) t v n out u h .1 .1
-
-  weaker : (f : ℕ) (c : List ℕ) → exactFault t f c ≡ 0 → cleanFault t f c ≡ 0
-  weaker f c z = exact-is-clean t f c z
-
-  walks : walked (cleanFault t) v n ≡ walked (exactFault t) v n
-  walks = weaker-walked (exactFault t) (cleanFault t) weaker v n at said ended ∙ sym ended
-
-  entries : entriesIn (cleanFault t) v n ≡ entriesIn (exactFault t) v n
-  entries = weaker-entries (exactFault t) (cleanFault t) weaker v n at said ended
-
-  bytes : bytesBy (cleanFault t) t v n ≡ bytesBy (exactFault t) t v n
-  unfolding bytesBy
-  bytes = ap (messageOf t v (mtiIn n) (countIn n)) entries
-
-  pub agrees : answerBy (cleanFault t) t v n out ≡ Written u
-  unfolding answerBy
-  agrees = rw (walks, bytes) h
-
-  pub writes-alike : outputBy (cleanFault t) t v n out ≡ outputBy (exactFault t) t v n out
-  unfolding outputBy
-  writes-alike = rw (walks, bytes)
-
-  pub names-none : paddedBy (cleanFault t) t v n out ≡ noFields
+  padded-is : paddedBy (cleanFault t) t v n out ≡ setOf (shortIn t es)
   unfolding paddedBy paddedOn
-  names-none =
-      rw (paddedBy, agrees)
-      (ap (λ (es : List Entry). setOf (shortIn t es)) entries
-      ∙ ap setOf (none-short t v (countIn n) (entriesIn (exactFault t) v n) (entries-good (exactFault t) v n))
-      ∙ no-fields)
+  padded-is = rw (paddedBy, h)
 
-long-whole : (t : Table) (f : ℕ) (c : List ℕ) → isShort t f (length c) ≡ false → fieldBytes t f c ≡ decimal (t .width f) (length c) ++ c
-unfolding fieldBytes
-long-whole t f c h = ap (λ (l : List ℕ). decimal (t .width f) (length c) ++ l) (not-short-whole t f c h)
+  padded-bit : (f : ℕ) → bitOf (paddedBy (cleanFault t) t v n out) f ≡ isIn f (shortIn t es)
+  padded-bit f = ap (λ (s : List ℕ). bitOf s f) padded-is ∙ set-bit (shortIn t es) f (short-fields (cleanFault t) t v (countIn n) passes)
+
+  pub padded-short : (f : ℕ) → bitOf (paddedBy (cleanFault t) t v n out) f ≡ true → Short t f (contentsBy (cleanFault t) v n)
+  padded-short f y = listed-short (cleanFault t) t v (countIn n) passes f (sym (padded-bit f) ∙ y)
+
+  pub short-padded : (f : ℕ) → Short t f (contentsBy (cleanFault t) v n) → bitOf (paddedBy (cleanFault t) t v n out) f ≡ true
+  short-padded f x =
+      padded-bit f
+      ∙ short-listed (cleanFault t) t v (countIn n) passes f (x .before) (x .bytes) (x .after) (x .is) (is-short t f (length (x .bytes)) (x .fixed) (x .short))
+
+  pub exact-too : ((f : ℕ) → Short t f (contentsBy (cleanFault t) v n) → ⊥) → answerBy (exactFault t) t v n out ≡ Written u
+  exact-too no-short =
+      answers-alike (cleanFault t) (exactFault t) t v n out u h (none-short (cleanFault t) t v (countIn n) passes (λ f c z. z) no-short)
+
+-- What the exact writer takes is nowhere short.
+exact-long : (t : Table) (v : List ℕ) (m : ℕ) {last : ℕ} {es : List Entry} → Walkable (exactFault t) v m last es → shortIn t es ≡ []
+unfolding shortIn
+exact-long t v m none = refl
+exact-long t v m {last} (more {f = f} {a = a} {n = n} g w) =
+    let q : isShort t f n ≡ false =
+    ap (isShort t f) (sym (sized (exactFault t) t v m {last = last} f a n g)) ∙ exact-not-short t f (contentOf v a n) (g .ruled) in
+    rw q (exact-long t v m w)
+
+module _ (t : Table) (v n out : List ℕ) (u : ℕ) (h : answerBy (exactFault t) t v n out ≡ Written u) where
+  clear : Clear (cleanFault t) v (entriesIn (exactFault t) v n)
+  clear = weaker-clear (exactFault t) (cleanFault t) (exact-is-clean t) v n (at (exactFault t) t v n out u h) (said (exactFault t) t v n out u h) (ended (exactFault t) t v n out u h)
+
+  pub clean-too : answerBy (cleanFault t) t v n out ≡ Written u
+  clean-too = answers-alike (exactFault t) (cleanFault t) t v n out u h clear
+
+  pub clean-same : outputBy (cleanFault t) t v n out ≡ outputBy (exactFault t) t v n out
+  clean-same = writes-alike (exactFault t) (cleanFault t) t v n out u h clear
+
+  pub none-padded : paddedBy (cleanFault t) t v n out ≡ noFields
+  none-padded =
+      padded-is t v n out u clean-too
+      ∙ ap (λ (es : List Entry). setOf (shortIn t es)) (entries-alike (exactFault t) (cleanFault t) t v n out u h clear)
+      ∙ ap setOf (exact-long t v (countIn n) (walk (exactFault t) t v n out u h))
+      ∙ no-fields
 
 pub agrees-with-exact : (t : Table) → AgreesWithExact t
-agrees-with-exact t =
-    record {
-      same-answer = agrees t;
-      same-output = writes-alike t;
-      none-padded = names-none t;
-      long-alone = long-whole t;
-      nothing-cut = λ f c. (before t f c, (after t f c, content-stands t f c));
-    }
+agrees-with-exact t = record { same-answer = clean-too t; same-output = clean-same t; none-padded = none-padded t; exact-too = exact-too t }
 
 pub house-agrees : AgreesWithExact house
 house-agrees = agrees-with-exact house
+
+in-one-piece : (t : Table) (f : ℕ) (c : List ℕ)
+    → (i : ℕ) × ((j : ℕ) × (cleaned t f c ≡ replicate i (padByte (t .class f)) ++ (c ++ replicate j (padByte (t .class f)))))
+unfolding cleaned padded
+in-one-piece t f c =
+    let k = missing t f (length c) in
+    by-bool (padsLeft (t .class f)) (λ y. (k, (0, rw (y, append-nil c)))) (λ s. (0, (k, rw s)))
+
+pub pads-short-alone : (t : Table) → Small t → PadsShortAlone t
+pads-short-alone t small =
+    record {
+      exact-writes = λ v n out u h. written (exactFault t) t v n out u h (contentsBy (exactFault t) v n) (exact-written t v n out u h);
+      clean-writes = λ v n out u h. written (cleanFault t) t v n out u h (cleanedIn t (contentsBy (cleanFault t) v n)) (clean-written t v n out u h);
+      others-stay = not-short-whole t;
+      nothing-dropped = in-one-piece t;
+      cleaned-taken = cleaned-exact t;
+      padded-short = padded-short t;
+      short-padded = short-padded t;
+      refused-none = λ v n out r h. sym (padded-refused (cleanFault t) t v n out r h);
+      reads-back =
+          λ v n out s b u h. reads-as (cleanFault t) t v n out u h (cleanedIn t (contentsBy (cleanFault t) v n)) (clean-written t v n out u h) small s b;
+    }
+
+pub house-pads-short-alone : PadsShortAlone house
+house-pads-short-alone = pads-short-alone house house-small

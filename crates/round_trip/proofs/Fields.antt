@@ -1,27 +1,24 @@
 -- The fields of a message, where they lie in the input: their entries pass the exact writer's walk, and their bytes are written again.
 -- Assumes nothing.
-use Prim.Native.Nat.{ℕ, zero, suc, _+_, _-_, _*_, _≤_, _<_}
+use Prim.Native.Nat.{ℕ, zero, suc, _+_, _*_, _≤_, _<_}
 use mathlib.Core.Path.{_≡_, refl, sym, ap, _∙_}
-use mathlib.Core.Bool.{Bool, true, false, cond}
+use mathlib.Core.Bool.{true}
 use mathlib.Core.List.{List, [], _∷_, _++_, append-assoc}
 use native.Mathlib.Omega.{arith}
-use lib.Dec.{eqb, leb, ltb}
-use lib.ListN.{length, take, drop, length-append}
+use lib.ListN.{length, drop, length-append}
 use lib.Seq.{take-append-seam, drop-at}
 use borrow.Author.Tests.{lt-ltb, le-leb}
-use Rattle.octets.specs.Lists.{both, either, all}
-use Rattle.octets.specs.Numbers.{isDigit, isAscii, decimal, decimalOf}
+use Rattle.octets.specs.Numbers.{decimal}
 use Rattle.octets.proofs.Cases.{by-bool, by-eq, both-left}
 use Rattle.octets.proofs.Numbers.{digits-number, digits-length}
 use Rattle.field_table.specs.Table.{Table, isBinary}
 use Rattle.field_write.specs.Fields.{exactFault, fieldBytes}
-use Rattle.field_write.proofs.Allowed.{Exact, Clean, exact-passes}
+use Rattle.field_write.proofs.Allowed.{exact-passes}
 use Rattle.field_write.proofs.Cleaned.{exact-unpadded}
 use Rattle.bitmap.specs.Bits.{bitOf}
 use Rattle.bitmap.specs.Bitmaps.{isField, hasField, fieldsFrom}
 use Rattle.message_language.specs.Language.{Item, Entry, entry, Fields, none, more}
-use Rattle.message_walk.specs.Walk.{Test, numberAllowed, contentOf}
-use Rattle.message_walk.proofs.Steps.{Good}
+use Rattle.message_walk.specs.Walk.{numberAllowed, contentOf}
 use Rattle.message_walk.proofs.Written.{Walkable, none as walked-none, more as walked-more}
 use Rattle.message_write.specs.Written.{numbersOf, bodyOf}
 

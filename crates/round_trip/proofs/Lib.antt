@@ -1,4 +1,5 @@
 pub mod Cleaning
+pub mod Contents
 pub mod Fields
 pub mod LookedUp
 pub mod Made

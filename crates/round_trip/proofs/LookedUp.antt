@@ -1,10 +1,9 @@
 -- Lookup in the notes of a message finds exactly the fields of its reading. Assumes nothing.
-use Prim.Native.Nat.{ℕ, zero, suc, _+_, _*_, _≤_, _<_}
-use mathlib.Core.Path.{_≡_, refl, sym, ap, _∙_}
-use mathlib.Core.Bool.{Bool, true, false, cond}
+use Prim.Native.Nat.{ℕ, _+_, _*_, _≤_, _<_}
+use mathlib.Core.Path.{_≡_, refl, ap, _∙_}
 use mathlib.Core.List.{List, [], _∷_, _++_}
 use native.Mathlib.Omega.{arith}
-use lib.Dec.{eqb, leb, ltb}
+use lib.Dec.{leb, ltb}
 use lib.ListN.{length, length-append}
 use borrow.Author.Tests.{eq-eqb, ne-eqb, ltb-true}
 use Rattle.octets.specs.Lists.{both}
@@ -16,7 +15,7 @@ use Rattle.field_table.specs.House.{house}
 use Rattle.field_table.proofs.Rows.{Small, house-small}
 use Rattle.field_write.specs.Fields.{exactFault}
 use Rattle.bitmap.specs.Bitmaps.{isField}
-use Rattle.message_language.specs.Language.{Entry, entry, Reading, Begins}
+use Rattle.message_language.specs.Language.{Entry, Reading, Begins}
 use Rattle.message_notes.specs.Notes.{notesOf, notesRoom}
 use Rattle.message_reader.specs.Reader.{notesAfter}
 use Rattle.message_walk.specs.Walk.{Test, any, numberAllowed, ends, walked, entriesIn}
@@ -24,7 +23,6 @@ use Rattle.message_walk.proofs.Weaker.{weaker-walked, weaker-entries}
 use Rattle.message_walk.proofs.Steps.{Good}
 use Rattle.message_walk.proofs.Written.{Walkable, none, more}
 use Rattle.message_lookup.specs.Lookup.{foundIn, foundBy, lookedUp}
-use Rattle.message_lookup.specs.declared.Found.{Found}
 use Rattle.message_lookup.specs.declared.Found.the-variants.{At, Refused}
 use Rattle.round_trip.specs.RoundTrip.{endPlace, LooksUp}
 use Rattle.round_trip.proofs.Noted.{Noted, noted}

@@ -1,20 +1,20 @@
 -- The bitmaps made from rising fields: their count and their fields are what they were made from. Assumes nothing.
 use Prim.Native.Nat.{ℕ, zero, suc, _+_, _*_, _%_, _≤_, _<_}
 use mathlib.Core.Path.{_≡_, refl, sym, ap, _∙_}
-use mathlib.Core.Bool.{Bool, true, false, cond, not}
-use mathlib.Core.List.{List, [], _∷_, _++_}
+use mathlib.Core.Bool.{Bool, true, false}
+use mathlib.Core.List.{List, [], _∷_}
 use native.Mathlib.Omega.{arith}
 use lib.Dec.{eqb, leb, ltb}
 use lib.ListN.{length, take, getD}
 use lib.Seq.{length-take-le}
 use borrow.Author.Tests.{eq-eqb, ne-eqb, le-leb, lt-leb, leb-true, ltb-true}
-use Rattle.octets.specs.Lists.{both, either, between, all}
+use Rattle.octets.specs.Lists.{both, between, all}
 use Rattle.octets.proofs.Cases.{false-true, by-bool, by-eq, by-le, both-left, both-right}
 use Rattle.octets.proofs.Lists.{is-between, between-high}
 use Rattle.bitmap.specs.Bits.{bitOf}
-use Rattle.bitmap.specs.Bitmaps.{isField, hasField, countOf, fieldsFrom, fieldsOf, isIn, noFields, setOf, setFrom, chain, mapBit, mapsFor, mapByte, mapsFrom}
+use Rattle.bitmap.specs.Bitmaps.{isField, hasField, countOf, fieldsFrom, fieldsOf, isIn, noFields, setOf, chain, mapBit, mapsFor, mapByte, mapsFrom}
 use Rattle.bitmap.proofs.Maps.{field-low, maps-length}
-use Rattle.bitmap.proofs.Sets.{Bytes24, none-is, from-is, set-is, has-set}
+use Rattle.bitmap.proofs.Sets.{none-is, from-is, set-is, has-set}
 use Rattle.bitmap.proofs.ByBits.{made-bit, maps-made}
 use Rattle.message_walk.specs.Walk.{numberAllowed}
 use Rattle.round_trip.proofs.Fields.{Rising, end, next}
@@ -84,7 +84,7 @@ module _ (m : ℕ) where
   unfolding numberAllowed
   is-low last f a = ltb-true last f (both-left (ltb last f) (both (isField f) (leb f (64 * m))) a)
 
-  is-field : (last f : ℕ) → numberAllowed m last f ≡ true → isField f ≡ true
+  pub is-field : (last f : ℕ) → numberAllowed m last f ≡ true → isField f ≡ true
   unfolding numberAllowed
   is-field last f a = both-left (isField f) (leb f (64 * m)) (both-right (ltb last f) (both (isField f) (leb f (64 * m))) a)
 
@@ -100,7 +100,7 @@ module _ (m : ℕ) where
   all-fields end = refl
   all-fields {last} (next {f = f} a r) = rw (is-field last f a) (all-fields r)
 
-no-member : (fs : List ℕ) (f : ℕ) → all isField fs ≡ true → isField f ≡ false → isIn f fs ≡ false
+pub no-member : (fs : List ℕ) (f : ℕ) → all isField fs ≡ true → isField f ≡ false → isIn f fs ≡ false
 no-member [] f a n = refl
 no-member (g ∷ fs) f a n =
     by-eq g f

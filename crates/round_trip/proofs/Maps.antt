@@ -1,17 +1,17 @@
 -- The bitmaps made from a message's fields are the bitmaps that were read. Assumes nothing.
 use Prim.Native.Nat.{ℕ, zero, suc, _+_, _-_, _*_, _≤_, _<_}
 use mathlib.Core.Path.{_≡_, refl, sym, ap, _∙_}
-use mathlib.Core.Bool.{Bool, true, false, cond, not}
-use mathlib.Core.List.{List, [], _∷_, _++_}
+use mathlib.Core.Bool.{Bool, true, false, not}
+use mathlib.Core.List.{List}
 use native.Mathlib.Omega.{arith}
-use lib.Dec.{eqb, leb}
+use lib.Dec.{leb}
 use lib.ListN.{length, take, replicate}
 use lib.Seq.{take-at}
-use borrow.Author.Tests.{eq-eqb, ne-eqb, le-leb, lt-leb}
-use Rattle.octets.specs.Lists.{both, either, between, all}
+use borrow.Author.Tests.{eq-eqb, ne-eqb}
+use Rattle.octets.specs.Lists.{between, all}
 use Rattle.octets.proofs.Cases.{by-bool, by-eq}
 use Rattle.bitmap.specs.Bits.{bitOf, bytesOf}
-use Rattle.bitmap.specs.Bitmaps.{isField, hasField, countOf, fieldsFrom, fieldsOf, isIn, setOf, setFrom, noFields, mapBit, mapsFor}
+use Rattle.bitmap.specs.Bitmaps.{isField, hasField, countOf, fieldsFrom, fieldsOf, isIn, setOf, mapBit, mapsFor}
 use Rattle.bitmap.proofs.Bits.{bytes-of-bits}
 use Rattle.bitmap.proofs.Fields.{fields-are}
 use Rattle.bitmap.proofs.Maps.{field-not-65}

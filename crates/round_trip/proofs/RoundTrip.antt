@@ -1,14 +1,12 @@
 -- Reading and then exact writing gives back what was read: over any table of small lengths, and the house table. Assumes nothing.
-use Prim.Native.Nat.{ℕ, zero, suc, _+_, _-_, _*_, _≤_, _<_}
+use Prim.Native.Nat.{ℕ, _+_, _*_, _≤_}
 use mathlib.Core.Path.{_≡_, refl, sym, ap, _∙_}
-use mathlib.Core.Bool.{Bool, true, false, cond}
-use mathlib.Core.List.{List, [], _∷_, _++_, append-assoc}
-use native.Mathlib.Omega.{arith}
-use lib.Dec.{eqb, leb}
-use lib.ListN.{length, take, drop, length-append}
+use mathlib.Core.Bool.{Bool, true}
+use mathlib.Core.List.{List, [], _∷_, _++_}
+use lib.ListN.{length, take}
 use lib.Seq.{take-at}
 use borrow.Author.Tests.{eq-eqb, le-leb}
-use Rattle.octets.specs.Lists.{both, between, all, lay, placed}
+use Rattle.octets.specs.Lists.{between, all, lay}
 use Rattle.octets.proofs.Cases.{both-left, both-right}
 use Rattle.octets.proofs.Lists.{placed-fits}
 use Rattle.refusal.specs.declared.Output.the-variants.{Written}
@@ -20,9 +18,8 @@ use Rattle.bitmap.specs.Bitmaps.{setOf, mapsFor}
 use Rattle.message_language.specs.Language.{Reading, Message, Begins}
 use Rattle.message_notes.specs.Notes.{notesOf, notesRoom}
 use Rattle.message_reader.specs.Reader.{notesAfter}
-use Rattle.message_walk.specs.Walk.{countIn, mtiIn, ends, walked, entriesIn}
 use Rattle.message_walk.proofs.Written.{count-in, mti-in}
-use Rattle.message_write.specs.Written.{numbersOf, bodyOf, bitmapsOf, messageOf, bytesBy, answered, laidOut, answerOn, outputOn, answerBy, outputBy}
+use Rattle.message_write.specs.Written.{bitmapsOf, messageOf, bytesBy, answered, laidOut, answerOn, outputOn, answerBy, outputBy}
 use Rattle.round_trip.specs.RoundTrip.{isByte, GivesBack}
 use Rattle.round_trip.proofs.Maps.{maps-back}
 use Rattle.round_trip.proofs.Noted.{Noted, noted}

@@ -1,34 +1,47 @@
 -- Reading, lookup and both writers held together: demand 3's writing half and what goes with it. Proved in proofs/RoundTrip.antt,
 -- Rereading.antt, Cleaning.antt and LookedUp.antt: for every table whose lengths three digits can spell, and said of the house table there.
 --
---   isByte x            == x is a number that a byte holds, as every element of a slice is
---   GivesBack t         == reading by the table t, and then exact writing, gives back what was read
---   moved t at es       == the entries es as they stand in a message whose fields begin at the place `at`
---   contentsIn v es     == the contents of the entries es, which lie in the values v
---   readingOf t n es    == the reading of the message with the head of the notes n and the fields of the entries es
---   WritesMessages t    == what the exact writer writes is a message, with the fields and the contents that the notes name
---   AgreesWithExact t   == what the cleaning writer does, measured by the exact one
---   endPlace r          == where the end note of the reading r stands
---   LooksUp t           == lookup in the notes of a message finds exactly the fields of its reading
+--   isByte x                  == x is a number that a byte holds, as every element of a slice is
+--   GivesBack t               == reading by the table t, and then exact writing, gives back what was read
+--   Content                   == a field with its content: its number and the bytes
+--   content f c               == field f with the content c
+--   contentsIn v es           == the fields of the entries es with their contents, which lie in the values v
+--   contentsBy p v n          == those that the notes n name in the values v, where the test p is asked of contents
+--   numbersIn cs              == the numbers of the fields cs
+--   spelt t cs                == the fields cs, one after the other: length digits, of which a fixed field has none, and content
+--   messageWith t mti m cs    == the message of them: MTI, m bitmaps that name the fields, the fields
+--   standing t at cs          == where the contents of cs stand in a message whose fields begin at the place `at`
+--   readingOf t mti m cs      == the reading of that message
+--   ReadsAs t s b u mti m cs  == reading the input s, with the notes buffer b, gives that reading, u bytes used, and the contents cs again
+--   WritesMessages t          == what the exact writer writes is a message, and reading it back gives the contents that the notes name
+--   cleanedIn t cs            == the fields cs, each with its content padded where it is short
+--   Short t f cs              == field f is one of cs, it is fixed, and its content is shorter than the table's length
+--   AgreesWithExact t         == the cleaning writer does as the exact one where nothing is short
+--   PadsShortAlone t          == what it does else: it pads the short fixed fields, names exactly those, and changes and drops nothing
+--   endPlace r                == where the end note of the reading r stands
+--   LooksUp t                 == lookup in the notes of a message finds exactly the fields of its reading
 --
 -- Assumes nothing: these are definitions and statements.
-use Prim.Native.Nat.{ℕ, _+_, _*_, _≤_}
+use Prim.Native.Nat.{ℕ, _+_, _*_, _≤_, _<_}
 use mathlib.Core.Path.{_≡_}
 use mathlib.Core.Bool.{Bool, true, false}
 use mathlib.Core.List.{List, [], _∷_, _++_}
-use lib.ListN.{length, take}
+use lib.ListN.{length, take, replicate}
 use Rattle.octets.specs.Lists.{between, all, lay}
 use Rattle.octets.specs.Numbers.{decimal}
 use Rattle.refusal.specs.Numbers.{fieldAbsent}
 use Rattle.refusal.specs.Refusals.{refusal}
-use Rattle.refusal.specs.declared.Output.the-variants.{Written}
+use Rattle.refusal.specs.declared.Refusal.{Refusal}
+use Rattle.refusal.specs.declared.Output.the-variants.{Written, Refused as WriteRefused}
 use Rattle.field_table.specs.Table.{Table}
-use Rattle.field_write.specs.Fields.{exactFault, cleanFault, isShort, fieldBytes}
-use Rattle.bitmap.specs.Bitmaps.{noFields}
+use Rattle.field_write.specs.Fields.{exactFault, cleanFault, isShort, padByte, cleaned}
+use Rattle.bitmap.specs.Bits.{bitOf}
+use Rattle.bitmap.specs.Bitmaps.{noFields, setOf, mapsFor}
 use Rattle.message_language.specs.Language.{Entry, entry, Reading, Message, Begins}
-use Rattle.message_notes.specs.Notes.{headSize, fieldNoteSize, notesRoom}
-use Rattle.message_reader.specs.Reader.{notesAfter}
-use Rattle.message_walk.specs.Walk.{countIn, mtiIn, contentOf, entriesIn}
+use Rattle.message_notes.specs.Notes.{headSize, fieldNoteSize, notesOf, notesRoom}
+use Rattle.message_reader.specs.Reader.{readAnswer, notesAfter}
+use Rattle.message_reader.specs.declared.ReadAnswer.the-variants.{Accepted}
+use Rattle.message_walk.specs.Walk.{Test, countIn, mtiIn, contentOf, entriesIn}
 use Rattle.message_lookup.specs.Lookup.{lookedUp}
 use Rattle.message_lookup.specs.declared.Found.the-variants.{At, Refused}
 use Rattle.message_write.specs.Written.{answerBy, outputBy, paddedBy}
@@ -57,35 +70,79 @@ pub record GivesBack (t : Table) : Type 0 where
       u ≤ length out →
       outputBy (exactFault t) t s (notesAfter t s b) out ≡ lay (take u s) out
 
-unfoldable pub moved : Table → ℕ → List Entry → List Entry
-moved t at [] = []
-moved t at (e ∷ es) = entry (e .number) (at + t .width (e .number)) (e .size) ∷ moved t (at + (t .width (e .number) + e .size)) es
+pub record Content : Type 0 where
+  pub number : ℕ
+  pub bytes : List ℕ
 
-unfoldable pub contentsIn : List ℕ → List Entry → List (List ℕ)
+abbrev pub content : ℕ → List ℕ → Content
+content f c = record { number = f; bytes = c }
+
+unfoldable pub contentsIn : List ℕ → List Entry → List Content
 contentsIn v [] = []
-contentsIn v (e ∷ es) = contentOf v (e .offset) (e .size) ∷ contentsIn v es
+contentsIn v (e ∷ es) = content (e .number) (contentOf v (e .offset) (e .size)) ∷ contentsIn v es
 
-abbrev pub readingOf : Table → List ℕ → List Entry → Reading
-readingOf t n es = record { mti = mtiIn n; count = countIn n; entries = moved t (4 + 8 * countIn n) es }
+abbrev pub contentsBy : Test → List ℕ → List ℕ → List Content
+contentsBy p v n = contentsIn v (entriesIn p v n)
 
--- From any values and notes that the exact writer takes. That the reader accepts the message, with this reading alone, is demand 3's
--- reading half.
+unfoldable pub numbersIn : List Content → List ℕ
+numbersIn [] = []
+numbersIn (c ∷ cs) = c .number ∷ numbersIn cs
+
+unfoldable pub spelt : Table → List Content → List ℕ
+spelt t [] = []
+spelt t (c ∷ cs) = decimal (t .width (c .number)) (length (c .bytes)) ++ (c .bytes ++ spelt t cs)
+
+-- 01: "the bitmaps follow from the count and the fields"
+unfoldable pub messageWith : Table → List ℕ → ℕ → List Content → List ℕ
+messageWith t mti m cs = mti ++ (take (8 * m) (mapsFor m (setOf (numbersIn cs))) ++ spelt t cs)
+
+unfoldable pub standing : Table → ℕ → List Content → List Entry
+standing t at [] = []
+standing t at (c ∷ cs) =
+    entry (c .number) (at + t .width (c .number)) (length (c .bytes)) ∷ standing t (at + (t .width (c .number) + length (c .bytes))) cs
+
+abbrev pub readingOf : Table → List ℕ → ℕ → List Content → Reading
+readingOf t mti m cs = record { mti = mti; count = m; entries = standing t (4 + 8 * m) cs }
+
+pub record ReadsAs (t : Table) (s b : List ℕ) (u : ℕ) (mti : List ℕ) (m : ℕ) (cs : List Content) : Type 0 where
+  -- The reader accepts u bytes and m bitmaps …
+  pub accepts : readAnswer t s b ≡ Accepted u m
+  -- … and its notes are those of this reading: the same MTI, and for each field its number, where its content stands now and how long it is …
+  pub notes : notesAfter t s b ≡ lay (notesOf (readingOf t mti m cs) u) b
+  -- … and there stand exactly these contents.
+  pub contents : contentsIn s (standing t (4 + 8 * m) cs) ≡ cs
+
+-- Theorem 3: "What the exact writer writes, from any notes and values that it accepts, is a message of the language, and reading it back
+-- gives those contents again (offsets moved to the message)."
 pub record WritesMessages (t : Table) : Type 0 where
   -- Where the exact writer answers u, the first u bytes of its output are a message, whose MTI and count of bitmaps are the head's, and
   -- whose fields are those of the notes, in their order and with their lengths. Shuts out a writer whose bitmaps do not name its fields.
   pub is-message :
       (v n out : List ℕ) (u : ℕ) →
       answerBy (exactFault t) t v n out ≡ Written u →
-      Message t 3 (take u (outputBy (exactFault t) t v n out)) (readingOf t n (entriesIn (exactFault t) v n))
-  -- Their contents are the contents that the notes name in the values.
-  pub same-contents :
-      (v n out : List ℕ) (u : ℕ) →
+      Message t 3 (take u (outputBy (exactFault t) t v n out)) (readingOf t (mtiIn n) (countIn n) (contentsBy (exactFault t) v n))
+  -- The reader, given any input s that begins with those bytes (the output itself, or the bytes alone, or with others behind them), and
+  -- room for its notes, reads the contents that the notes n name in the values v.
+  pub reads-back :
+      (v n out s b : List ℕ) (u : ℕ) →
       answerBy (exactFault t) t v n out ≡ Written u →
-      contentsIn (take u (outputBy (exactFault t) t v n out)) (moved t (4 + 8 * countIn n) (entriesIn (exactFault t) v n))
-      ≡ contentsIn v (entriesIn (exactFault t) v n)
+      take u s ≡ take u (outputBy (exactFault t) t v n out) →
+      notesRoom ≤ length b →
+      ReadsAs t s b u (mtiIn n) (countIn n) (contentsBy (exactFault t) v n)
 
--- What the exact writer writes, the cleaning writer writes too, and names nothing; where it pads, it pads short fixed fields alone and
--- drops no byte. That the padded set is the set of the short fixed fields is the cleaning writer's promise (`paddedBy`).
+unfoldable pub cleanedIn : Table → List Content → List Content
+cleanedIn t [] = []
+cleanedIn t (c ∷ cs) = content (c .number) (cleaned t (c .number) (c .bytes)) ∷ cleanedIn t cs
+
+pub record Short (t : Table) (f : ℕ) (cs : List Content) : Type 0 where
+  pub before : List Content
+  pub bytes : List ℕ
+  pub after : List Content
+  pub is : cs ≡ before ++ (content f bytes ∷ after)
+  pub fixed : t .width f ≡ 0
+  pub short : length bytes < t .most f
+
+-- Theorem 4, first part: "Cleaning agrees with exact writing, with an empty padded set, where nothing is short".
 pub record AgreesWithExact (t : Table) : Type 0 where
   -- For all values v, notes n and outputs: where the exact writer writes u bytes, the cleaning writer writes as many …
   pub same-answer : (v n out : List ℕ) (u : ℕ) → answerBy (exactFault t) t v n out ≡ Written u → answerBy (cleanFault t) t v n out ≡ Written u
@@ -96,10 +153,52 @@ pub record AgreesWithExact (t : Table) : Type 0 where
       outputBy (cleanFault t) t v n out ≡ outputBy (exactFault t) t v n out
   -- … and names no field as padded.
   pub none-padded : (v n out : List ℕ) (u : ℕ) → answerBy (exactFault t) t v n out ≡ Written u → paddedBy (cleanFault t) t v n out ≡ noFields
-  -- The bytes of a field whose content c is not short are its length digits and c, as the exact writer has them.
-  pub long-alone : (f : ℕ) (c : List ℕ) → isShort t f (length c) ≡ false → fieldBytes t f c ≡ decimal (t .width f) (length c) ++ c
-  -- Whatever the content, all of it stands in the field, in one piece.
-  pub nothing-cut : (f : ℕ) (c : List ℕ) → (a : List ℕ) × ((b : List ℕ) × (fieldBytes t f c ≡ a ++ (c ++ b)))
+  -- Where the cleaning writer writes u bytes and no field is short, the exact writer writes as many, and so the same.
+  pub exact-too :
+      (v n out : List ℕ) (u : ℕ) →
+      answerBy (cleanFault t) t v n out ≡ Written u →
+      ((f : ℕ) → Short t f (contentsBy (cleanFault t) v n) → ⊥) →
+      answerBy (exactFault t) t v n out ≡ Written u
+
+-- Theorem 4, its other parts: "otherwise the output differs only in the padded fields; the padded set is exactly the set of short fixed
+-- fields; no content byte is ever dropped."
+pub record PadsShortAlone (t : Table) : Type 0 where
+  -- The exact writer's output is the message with the contents that the notes name …
+  pub exact-writes :
+      (v n out : List ℕ) (u : ℕ) →
+      answerBy (exactFault t) t v n out ≡ Written u →
+      outputBy (exactFault t) t v n out ≡ lay (messageWith t (mtiIn n) (countIn n) (contentsBy (exactFault t) v n)) out
+  -- … and the cleaning writer's is the same, with each content cleaned. The MTI and the bitmaps do not differ, nor any length digit, …
+  pub clean-writes :
+      (v n out : List ℕ) (u : ℕ) →
+      answerBy (cleanFault t) t v n out ≡ Written u →
+      outputBy (cleanFault t) t v n out ≡ lay (messageWith t (mtiIn n) (countIn n) (cleanedIn t (contentsBy (cleanFault t) v n))) out
+  -- … nor a content that is not short;
+  pub others-stay : (f : ℕ) (c : List ℕ) → isShort t f (length c) ≡ false → cleaned t f c ≡ c
+  -- and whatever the content, it stands there in one piece, with nothing but padding beside it.
+  pub nothing-dropped :
+      (f : ℕ) (c : List ℕ) →
+      (i : ℕ) × ((j : ℕ) × (cleaned t f c ≡ replicate i (padByte (t .class f)) ++ (c ++ replicate j (padByte (t .class f)))))
+  -- What was cleaned the exact writer would have taken.
+  pub cleaned-taken : (f : ℕ) (c : List ℕ) → cleanFault t f c ≡ 0 → exactFault t f (cleaned t f c) ≡ 0
+  -- Where something is written, the padded set has a bit exactly for each short fixed field, …
+  pub padded-short :
+      (v n out : List ℕ) (u : ℕ) →
+      answerBy (cleanFault t) t v n out ≡ Written u →
+      (f : ℕ) → bitOf (paddedBy (cleanFault t) t v n out) f ≡ true → Short t f (contentsBy (cleanFault t) v n)
+  pub short-padded :
+      (v n out : List ℕ) (u : ℕ) →
+      answerBy (cleanFault t) t v n out ≡ Written u →
+      (f : ℕ) → Short t f (contentsBy (cleanFault t) v n) → bitOf (paddedBy (cleanFault t) t v n out) f ≡ true
+  -- … and where it is refused, none.
+  pub refused-none : (v n out : List ℕ) (r : Refusal) → answerBy (cleanFault t) t v n out ≡ WriteRefused r → paddedBy (cleanFault t) t v n out ≡ noFields
+  -- Reading back what was written gives the cleaned contents.
+  pub reads-back :
+      (v n out s b : List ℕ) (u : ℕ) →
+      answerBy (cleanFault t) t v n out ≡ Written u →
+      take u s ≡ take u (outputBy (cleanFault t) t v n out) →
+      notesRoom ≤ length b →
+      ReadsAs t s b u (mtiIn n) (countIn n) (cleanedIn t (contentsBy (cleanFault t) v n))
 
 abbrev pub endPlace : Reading → ℕ
 endPlace r = headSize + fieldNoteSize * length (r .entries)
