@@ -1,3 +1,4 @@
+pub mod Agreeing
 pub mod Ends
 pub mod Folds
 pub mod Heads

@@ -23,7 +23,7 @@ use Rattle.message_walk.specs.declared.Judged.the-variants.{Passed, End,
 use Rattle.message_walk.specs.Walk.{Test, numberAllowed, contentOf, judgedField, judged, passed, Ending, bad, ends, ending}
 
 -- what stands at the front of the notes
-by-note : {P : Type 0} (o : Note) → (o ≡ Malformed → P) → ((u : ℕ) → o ≡ EndNote u → P) → ((f a n : ℕ) → o ≡ FieldNote f a n → P) → P
+pub by-note : {P : Type 0} (o : Note) → (o ≡ Malformed → P) → ((u : ℕ) → o ≡ EndNote u → P) → ((f a n : ℕ) → o ≡ FieldNote f a n → P) → P
 by-note Malformed x y z = x refl
 by-note (EndNote u) x y z = y u refl
 by-note (FieldNote f a n) x y z = z f a n refl

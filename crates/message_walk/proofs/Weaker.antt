@@ -80,7 +80,7 @@ module _ (p q : Test) (weaker : (f : ℕ) (c : List ℕ) → p f c ≡ 0 → q f
   clear-good [] a = tt
   clear-good (d ∷ es) a = (weaker (d .number) (contentOf v (d .offset) (d .size)) (a .0 .1 .ruled), clear-good es (a .1))
 
-  pub weaker-clear : Clear q v (entriesIn p v n)
+  weaker-clear : Clear q v (entriesIn p v n)
   unfolding entriesIn
   weaker-clear = clear-good (passed p v (countIn n) (length n) 0 (drop headSize n)) (all-good p v (countIn n) (length n) 0 (drop headSize n))
 

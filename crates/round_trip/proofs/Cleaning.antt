@@ -8,15 +8,19 @@ use native.Mathlib.Omega.{arith}
 use lib.Dec.{eqb, ltb}
 use lib.ListN.{length, drop, replicate, length-drop, length-append}
 use lib.Seq.{length-take-le}
-use borrow.Author.Tests.{eq-eqb, ne-eqb, eqb-true, lt-ltb, ltb-true}
+use borrow.Author.Tests.{le-leb, eq-eqb, ne-eqb, eqb-true, lt-ltb, ltb-true}
 use Rattle.octets.specs.Lists.{either, all}
 use Rattle.octets.proofs.Cases.{false-true, by-bool, by-eq, by-le, both-left, both-right}
-use Rattle.refusal.specs.declared.Output.the-variants.{Written}
+use Rattle.refusal.specs.Numbers.{lengthNotAllowed}
+use Rattle.refusal.specs.Refusals.{told}
+use Rattle.refusal.specs.declared.Refusal.{Refusal}
+use Rattle.refusal.specs.declared.Output.{Output}
+use Rattle.refusal.specs.declared.Output.the-variants.{Written, Refused}
 use Rattle.field_table.specs.Table.{Table}
 use Rattle.field_table.specs.House.{house}
 use Rattle.field_table.proofs.Rows.{Small, house-small}
-use Rattle.field_write.specs.Fields.{exactFault, cleanFault, isShort, missing, padByte, padsLeft, padded, cleaned}
-use Rattle.field_write.proofs.Allowed.{exact-is-clean, exact-not-short, not-short-exact}
+use Rattle.field_write.specs.Fields.{isAllowedLength, exactFault, cleanFault, isShort, missing, padByte, padsLeft, padded, cleaned}
+use Rattle.field_write.proofs.Allowed.{allowed-most, exact-not-short, not-short-exact}
 use Rattle.field_write.proofs.Cleaned.{not-short-whole, cleaned-exact}
 use Rattle.bitmap.specs.Bits.{bitOf}
 use Rattle.bitmap.specs.Bitmaps.{isField, isIn, noFields, setOf, setFrom}
@@ -24,15 +28,18 @@ use Rattle.bitmap.proofs.Bits.{bit-zero, bit-past}
 use Rattle.bitmap.proofs.Maps.{low-no-field, high-no-field}
 use Rattle.bitmap.proofs.Sets.{none-is, from-is, bit-set, set-is}
 use Rattle.message_language.specs.Language.{Entry, entry}
-use Rattle.message_walk.specs.Walk.{Test, countIn, mtiIn, contentOf, walked, entriesIn}
+use Rattle.message_walk.specs.Walk.{Test, headNumber, countIn, mtiIn, contentOf, bad, walked, entriesIn}
+use Rattle.message_walk.proofs.Agreeing.{same-walked, same-entries}
+use Rattle.message_walk.proofs.Heads.{ended-head, bad-head}
 use Rattle.message_walk.proofs.Steps.{Good}
-use Rattle.message_walk.proofs.Weaker.{Clear, clear-walked, clear-entries, weaker-clear}
+use Rattle.message_walk.proofs.Weaker.{Clear, clear-walked, clear-entries}
 use Rattle.message_walk.proofs.Written.{Walkable, none, more}
-use Rattle.message_write.specs.Written.{messageOf, shortIn, bytesBy, answerBy, outputBy, paddedOn, paddedBy}
+use Rattle.message_write.specs.Written.{messageOf, shortIn, bytesBy, answerOn, outputOn, answerBy, outputBy, paddedOn, paddedBy}
 use Rattle.message_write.proofs.Answering.{padded-refused}
-use Rattle.round_trip.specs.RoundTrip.{Content, content, contentsIn, contentsBy, cleanedIn, Short, AgreesWithExact, PadsShortAlone}
+use Rattle.round_trip.specs.RoundTrip.{Content, content, contentsIn, contentsBy, cleanedIn, readingOf, Short, AgreesWithExact, PadsShortAlone}
 use Rattle.round_trip.proofs.Made.{is-field, no-member}
-use Rattle.round_trip.proofs.Rereading.{at, said, ended, walk, written, reads-as, exact-written, clean-written}
+use Rattle.round_trip.proofs.Rereading.{at, said, ended, walk, written, begins, begins-maps, reads-as, exact-written, clean-written}
+use Rattle.round_trip.proofs.RoundTrip.{answers, given-back, bytes-back}
 
 -- a content is short where its field is fixed and it is under the table's length
 module _ (t : Table) (f n : ℕ) where
@@ -159,6 +166,10 @@ set-bit fs f a =
     (λ b. ap (λ (s : List ℕ). bitOf s f) (sym e) ∙ bit-set fs f a (omega arith) b)
     (λ b. sym (bit-past (setOf fs) f d (omega arith)) ∙ sym (no-member fs f a (sym (high-no-field f (omega arith) b)))))
 
+by-output : {P : Type 0} (o : Output) → ((u : ℕ) → o ≡ Written u → P) → ((r : Refusal) → o ≡ Refused r → P) → P
+by-output (Written u) x y = x u refl
+by-output (Refused r) x y = y r refl
+
 no-fields : setOf [] ≡ noFields
 unfolding setFrom
 no-fields = sym (set-is [] refl)
@@ -199,25 +210,55 @@ exact-long t v m {last} (more {f = f} {a = a} {n = n} g w) =
     ap (isShort t f) (sym (sized (exactFault t) t v m {last = last} f a n g)) ∙ exact-not-short t f (contentOf v a n) (g .ruled) in
     rw q (exact-long t v m w)
 
-module _ (t : Table) (v n out : List ℕ) (u : ℕ) (h : answerBy (exactFault t) t v n out ≡ Written u) where
-  clear : Clear (cleanFault t) v (entriesIn (exactFault t) v n)
-  clear = weaker-clear (exactFault t) (cleanFault t) (exact-is-clean t) v n (at (exactFault t) t v n out u h) (said (exactFault t) t v n out u h) (ended (exactFault t) t v n out u h)
+-- The two tests differ only where the exact writer's finds 12.
+tests-agree : (t : Table) (f : ℕ) (c : List ℕ) → (exactFault t f c ≡ lengthNotAllowed → ⊥) → cleanFault t f c ≡ exactFault t f c
+unfolding exactFault cleanFault
+tests-agree t f c h =
+    by-bool (isAllowedLength t f (length c))
+    (λ y. rw (y, le-leb (length c) (t .most f) (allowed-most t f (length c) y)))
+    (λ s. absurd (h (rw s)))
 
-  pub clean-too : answerBy (cleanFault t) t v n out ≡ Written u
-  clean-too = answers-alike (exactFault t) (cleanFault t) t v n out u h clear
+module _ (t : Table) (v n out : List ℕ) (h : told (answerBy (exactFault t) t v n out) .refused .number ≡ lengthNotAllowed → ⊥) where
+  not-length : (r : Refusal) → walked (exactFault t) v n ≡ bad r → r .number ≡ lengthNotAllowed → ⊥
+  unfolding answerBy answerOn
+  not-length r e z = h (rw (answerBy, e) z)
 
-  pub clean-same : outputBy (cleanFault t) t v n out ≡ outputBy (exactFault t) t v n out
-  clean-same = writes-alike (exactFault t) (cleanFault t) t v n out u h clear
+  walks-same : walked (cleanFault t) v n ≡ walked (exactFault t) v n
+  walks-same = same-walked lengthNotAllowed (λ z. omega arith) (exactFault t) (cleanFault t) (tests-agree t) v n not-length
+
+  bytes-same : headNumber n ≡ 0 → bytesBy (cleanFault t) t v n ≡ bytesBy (exactFault t) t v n
+  unfolding bytesBy
+  bytes-same z =
+      ap (messageOf t v (mtiIn n) (countIn n)) (same-entries lengthNotAllowed (λ i. omega arith) (exactFault t) (cleanFault t) (tests-agree t) v n not-length z)
+
+  pub clean-answers : answerBy (cleanFault t) t v n out ≡ answerBy (exactFault t) t v n out
+  unfolding answerBy answerOn
+  clean-answers =
+      by-eq (headNumber n) 0
+      (λ z. rw (walks-same, bytes-same z))
+      (λ z. rw (answerBy, walks-same, bad-head (exactFault t) v n z))
+
+  pub clean-leaves : outputBy (cleanFault t) t v n out ≡ outputBy (exactFault t) t v n out
+  unfolding outputBy outputOn
+  clean-leaves =
+      by-eq (headNumber n) 0
+      (λ z. rw (walks-same, bytes-same z))
+      (λ z. rw (outputBy, walks-same, bad-head (exactFault t) v n z))
 
   pub none-padded : paddedBy (cleanFault t) t v n out ≡ noFields
   none-padded =
-      padded-is t v n out u clean-too
-      ∙ ap (λ (es : List Entry). setOf (shortIn t es)) (entries-alike (exactFault t) (cleanFault t) t v n out u h clear)
-      ∙ ap setOf (exact-long t v (countIn n) (walk (exactFault t) t v n out u h))
-      ∙ no-fields
+      by-output (answerBy (exactFault t) t v n out)
+      (λ u e.
+      let i = clean-answers ∙ e in
+      let z = ended-head (exactFault t) v n (at (exactFault t) t v n out u e) (said (exactFault t) t v n out u e) (ended (exactFault t) t v n out u e) in
+      padded-is t v n out u i
+      ∙ ap (λ (es : List Entry). setOf (shortIn t es)) (same-entries lengthNotAllowed (λ i. omega arith) (exactFault t) (cleanFault t) (tests-agree t) v n not-length z)
+      ∙ ap setOf (exact-long t v (countIn n) (walk (exactFault t) t v n out u e))
+      ∙ no-fields)
+      (λ r e. sym (padded-refused (cleanFault t) t v n out r (clean-answers ∙ e)))
 
 pub agrees-with-exact : (t : Table) → AgreesWithExact t
-agrees-with-exact t = record { same-answer = clean-too t; same-output = clean-same t; none-padded = none-padded t; exact-too = exact-too t }
+agrees-with-exact t = record { same-answer = clean-answers t; same-output = clean-leaves t; none-padded = none-padded t; exact-too = exact-too t }
 
 pub house-agrees : AgreesWithExact house
 house-agrees = agrees-with-exact house
@@ -242,6 +283,17 @@ pads-short-alone t small =
       refused-none = λ v n out r h. sym (padded-refused (cleanFault t) t v n out r h);
       reads-back =
           λ v n out s b u h. reads-as (cleanFault t) t v n out u h (cleanedIn t (contentsBy (cleanFault t) v n)) (clean-written t v n out u h) small s b;
+      exact-again =
+          λ v n out s b d u h same room enough.
+          let p = cleanFault t in
+          let cs = cleanedIn t (contentsBy p v n) in
+          let w = clean-written t v n out u h in
+          let r = readingOf t (mtiIn n) (countIn n) cs in
+          let x = begins p t v n out u h cs w small s b same room in
+          let e = bytes-back t small s b d u r room x enough (begins-maps p t v n out u h cs w small s b same room) in (
+            answers t small s b d u r room x enough e,
+            given-back t small s b d u r room x enough e,
+          );
     }
 
 pub house-pads-short-alone : PadsShortAlone house

@@ -17,6 +17,7 @@ use Rattle.field_write.proofs.Cleaned.{digits-spell}
 use Rattle.bitmap.specs.Bitmaps.{setOf, mapsFor}
 use Rattle.message_language.specs.Language.{Item, Entry, entry, Fields, none as no-fields, more as more-fields, Message}
 use Rattle.message_walk.specs.Walk.{numberAllowed, contentOf}
+use Rattle.message_write.specs.Written.{numbersOf, bitmapsOf}
 use Rattle.round_trip.specs.RoundTrip.{Content, content, contentsIn, numbersIn, spelt, messageWith, standing, readingOf}
 use Rattle.round_trip.proofs.Fields.{Rising, end, next, content-at}
 use Rattle.round_trip.proofs.Made.{ordered, all-fields, maps-whole, maps-count, maps-fields}
@@ -47,6 +48,11 @@ content-there : (pre ds c rest v : List ℕ) (at w : ℕ) → length pre ≡ at 
 content-there pre ds c rest v at w l d e = rw (← d) (content-at pre ds c rest v at l e)
 
 module _ (t : Table) (m : ℕ) where
+  standing-numbers : (at : ℕ) (cs : List Content) → numbersOf (standing t at cs) ≡ numbersIn cs
+  unfolding numbersOf standing numbersIn
+  standing-numbers at [] = refl
+  standing-numbers at (c ∷ cs) = ap (λ (l : List ℕ). c .number ∷ l) (standing-numbers (at + (t .width (c .number) + length (c .bytes))) cs)
+
   risen : {last : ℕ} {cs : List Content} → Taken t m last cs → Rising m last (numbersIn cs)
   unfolding numbersIn
   risen none = end
@@ -98,6 +104,10 @@ module _ (t : Table) (small : Small t) (mti : List ℕ) (m : ℕ) (cs : List Con
         spelt = refl;
         fields = rw (maps-fields (numbersIn cs) m most (all-fields m rise) (ordered m rise)) (fields t m small taken (4 + 8 * m));
       }
+
+  pub maps-are : bitmapsOf m (standing t (4 + 8 * m) cs) ≡ makes-message .maps
+  unfolding bitmapsOf makes-message
+  maps-are = ap (λ (l : List ℕ). take (8 * m) (mapsFor m (setOf l))) (standing-numbers t m (4 + 8 * m) cs)
 
   pub contents-stand : (post : List ℕ) → contentsIn (messageWith t mti m cs ++ post) (standing t (4 + 8 * m) cs) ≡ cs
   unfolding messageWith

@@ -32,7 +32,7 @@ use Rattle.message_walk.proofs.Written.{Walkable, walkable, none as walked-none
 use Rattle.message_write.specs.Written.{numbersOf, bodyOf, bitmapsOf, messageOf, bytesBy, answered, laidOut, answerOn, outputOn, answerBy, outputBy}
 use Rattle.message_write.proofs.Answering.{written-ended}
 use Rattle.round_trip.specs.RoundTrip.{Content, content, contentsIn, contentsBy, numbersIn, spelt, messageWith, standing, readingOf, ReadsAs, WritesMessages, cleanedIn}
-use Rattle.round_trip.proofs.Contents.{Taken, none, more, makes-message, contents-stand}
+use Rattle.round_trip.proofs.Contents.{Taken, none, more, makes-message, maps-are, contents-stand}
 
 -- The entries es, whose contents lie in the values v, are written as the fields cs.
 pub record WrittenAs (t : Table) (v : List ℕ) (m last : ℕ) (es : List Entry) (cs : List Content) : Type 0 where
@@ -144,7 +144,7 @@ module _ (p : Test) (t : Table) (v n out : List ℕ) (u : ℕ) (h : answerBy p t
         joined : s ≡ messageWith t (mtiIn n) (countIn n) cs ++ drop u s
         joined = sym (take-append-drop u s) ∙ ap (λ (l : List ℕ). l ++ drop u s) (same ∙ front ∙ bytes-are)
 
-        begins : Begins t 3 s u (readingOf t (mtiIn n) (countIn n) cs)
+        pub begins : Begins t 3 s u (readingOf t (mtiIn n) (countIn n) cs)
         begins =
             record {
               message = messageWith t (mtiIn n) (countIn n) cs;
@@ -153,6 +153,10 @@ module _ (p : Test) (t : Table) (v n out : List ℕ) (u : ℕ) (h : answerBy p t
               long = ap length (sym bytes-are) ∙ was .length-is;
               is = message;
             }
+
+        pub begins-maps : bitmapsOf (countIn n) (standing t (4 + 8 * countIn n) cs) ≡ begins .is .maps
+        unfolding begins message
+        begins-maps = maps-are t small (mtiIn n) (countIn n) cs (head .four) (head .digits) (head .least) (head .most) (w .taken)
 
         pub reads-as : ReadsAs t s b u (mtiIn n) (countIn n) cs
         reads-as =

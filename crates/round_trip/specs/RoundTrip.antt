@@ -29,8 +29,8 @@ use mathlib.Core.List.{List, [], _∷_, _++_}
 use lib.ListN.{length, take, replicate}
 use Rattle.octets.specs.Lists.{between, all, lay}
 use Rattle.octets.specs.Numbers.{decimal}
-use Rattle.refusal.specs.Numbers.{fieldAbsent}
-use Rattle.refusal.specs.Refusals.{refusal}
+use Rattle.refusal.specs.Numbers.{lengthNotAllowed, fieldAbsent}
+use Rattle.refusal.specs.Refusals.{refusal, told}
 use Rattle.refusal.specs.declared.Refusal.{Refusal}
 use Rattle.refusal.specs.declared.Output.the-variants.{Written, Refused as WriteRefused}
 use Rattle.field_table.specs.Table.{Table}
@@ -144,15 +144,22 @@ pub record Short (t : Table) (f : ℕ) (cs : List Content) : Type 0 where
 
 -- Theorem 4, first part: "Cleaning agrees with exact writing, with an empty padded set, where nothing is short".
 pub record AgreesWithExact (t : Table) : Type 0 where
-  -- For all values v, notes n and outputs: where the exact writer writes u bytes, the cleaning writer writes as many …
-  pub same-answer : (v n out : List ℕ) (u : ℕ) → answerBy (exactFault t) t v n out ≡ Written u → answerBy (cleanFault t) t v n out ≡ Written u
+  -- For all values v, notes n and outputs, unless the exact writer finds a length that is not allowed (12): the cleaning writer answers the
+  -- same, be it the length written or a refusal, …
+  pub same-answer :
+      (v n out : List ℕ) →
+      (told (answerBy (exactFault t) t v n out) .refused .number ≡ lengthNotAllowed → ⊥) →
+      answerBy (cleanFault t) t v n out ≡ answerBy (exactFault t) t v n out
   -- … leaves the same bytes …
   pub same-output :
-      (v n out : List ℕ) (u : ℕ) →
-      answerBy (exactFault t) t v n out ≡ Written u →
+      (v n out : List ℕ) →
+      (told (answerBy (exactFault t) t v n out) .refused .number ≡ lengthNotAllowed → ⊥) →
       outputBy (cleanFault t) t v n out ≡ outputBy (exactFault t) t v n out
   -- … and names no field as padded.
-  pub none-padded : (v n out : List ℕ) (u : ℕ) → answerBy (exactFault t) t v n out ≡ Written u → paddedBy (cleanFault t) t v n out ≡ noFields
+  pub none-padded :
+      (v n out : List ℕ) →
+      (told (answerBy (exactFault t) t v n out) .refused .number ≡ lengthNotAllowed → ⊥) →
+      paddedBy (cleanFault t) t v n out ≡ noFields
   -- Where the cleaning writer writes u bytes and no field is short, the exact writer writes as many, and so the same.
   pub exact-too :
       (v n out : List ℕ) (u : ℕ) →
@@ -192,13 +199,21 @@ pub record PadsShortAlone (t : Table) : Type 0 where
       (f : ℕ) → Short t f (contentsBy (cleanFault t) v n) → bitOf (paddedBy (cleanFault t) t v n out) f ≡ true
   -- … and where it is refused, none.
   pub refused-none : (v n out : List ℕ) (r : Refusal) → answerBy (cleanFault t) t v n out ≡ WriteRefused r → paddedBy (cleanFault t) t v n out ≡ noFields
-  -- Reading back what was written gives the cleaned contents.
+  -- Reading back what was written gives the cleaned contents, …
   pub reads-back :
       (v n out s b : List ℕ) (u : ℕ) →
       answerBy (cleanFault t) t v n out ≡ Written u →
       take u s ≡ take u (outputBy (cleanFault t) t v n out) →
       notesRoom ≤ length b →
       ReadsAs t s b u (mtiIn n) (countIn n) (cleanedIn t (contentsBy (cleanFault t) v n))
+  -- … and the exact writer, given what was written and the notes that the reader makes of it, and enough room, writes the same again.
+  pub exact-again :
+      (v n out s b d : List ℕ) (u : ℕ) →
+      answerBy (cleanFault t) t v n out ≡ Written u →
+      take u s ≡ take u (outputBy (cleanFault t) t v n out) →
+      notesRoom ≤ length b →
+      u ≤ length d →
+      (answerBy (exactFault t) t s (notesAfter t s b) d ≡ Written u) × (outputBy (exactFault t) t s (notesAfter t s b) d ≡ lay (take u s) d)
 
 abbrev pub endPlace : Reading → ℕ
 endPlace r = headSize + fieldNoteSize * length (r .entries)
