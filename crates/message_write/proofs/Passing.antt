@@ -1,6 +1,6 @@
--- A turn of each loop over notes that pass, on plain values: v the values, n the notes. Assumes nothing.
+-- The loops over notes that pass, on plain values: v the values, n the notes. Assumes nothing.
 use Prim.Native.Nat.{ℕ, zero, suc, _+_, _-_, _*_, _≤_, _<_}
-use mathlib.Core.Path.{_≡_, refl, sym, ap, _∙_}
+use mathlib.Core.Path.{_≡_, refl, sym, ap, subst, _∙_}
 use mathlib.Core.Bool.{Bool, true, false, cond}
 use mathlib.Core.List.{List, [], _∷_, _++_}
 use native.Mathlib.Omega.{arith}
@@ -28,7 +28,7 @@ use Rattle.message_walk.specs.declared.Judged.{Judged}
 use Rattle.message_walk.specs.declared.Judged.the-variants.{Passed, End, Refused}
 use Rattle.message_walk.specs.Walk.{Test, any, countIn, numberAllowed, contentOf, judged, passed, entriesIn}
 use Rattle.message_walk.specs.Answers.{testOf}
-use Rattle.message_walk.proofs.Steps.{Good, passing}
+use Rattle.message_walk.proofs.Steps.{by-judged, Good, passing, passed-bad, passed-end, passed-more}
 use Rattle.message_walk.proofs.Ends.{Going, going-first, going-next, note-here, passed-here}
 use Rattle.message_walk.proofs.Folds.{none-refused, none-end, one-more, AllGood, all-good}
 use Rattle.message_write.specs.Written.{numbersOf, bodyOf, shortIn}
@@ -71,218 +71,176 @@ written-most t f s small e =
     (λ y. rw y (omega (arith, small .width-small f, small .most-small f)))
     (λ n. rw n (omega (arith, small .width-small f, small .most-small f)))
 
-module _ (v n : List ℕ) where
-  abbrev m : ℕ
-  m = countIn n
+-- A loop over the notes that pass the test p: it has come to the place `at` and the number `last`, and P holds of the entries still to come.
+pub record Loop (p : Test) (v n : List ℕ) (P : List Entry → Type 0) (at last : ℕ) : Type 0 where
+  pub fuel : ℕ
+  pub going : Going p v n (countIn n) at last fuel
+  pub holds : P (passed p v (countIn n) fuel last (drop at n))
 
-  abbrev coming : ℕ → ℕ → ℕ → List Entry
-  coming at last k = passed any v m k last (drop at n)
+pub loop-first : {p : Test} {v n : List ℕ} {P : List Entry → Type 0} → headSize ≤ length n → P (entriesIn p v n) → Loop p v n P headSize 0
+unfolding entriesIn
+loop-first {p} {v} {n} h x = record { fuel = length n; going = going-first p v n (countIn n) h; holds = x }
 
-  -- The fields put into a set.
-  pub record Putting (s : List ℕ) (at last k : ℕ) : Type 0 where
-    pub going : Going any v n m at last k
-    pub whole : setFrom noFields (numbersOf (entriesIn any v n)) ≡ setFrom s (numbersOf (coming at last k))
+-- A turn of it: the note there was judged to be o.
+pub record Turn (p : Test) (v n : List ℕ) (P : List Entry → Type 0) (at last : ℕ) (o : Judged) : Type 0 where
+  pub loop : Loop p v n P at last
+  pub judging : o ≡ judged p v (countIn n) last (take (length n - at) (drop at n))
 
-  pub putting-first : headSize ≤ length n → (s : List ℕ) → s ≡ noFields → Putting s headSize 0 (length n)
-  unfolding entriesIn
-  putting-first h s e = record { going = going-first any v n m h; whole = rw e }
+module _ {p : Test} {v n : List ℕ} {P : List Entry → Type 0} {at last : ℕ} {o : Judged} (c : Turn p v n P at last o) where
+  abbrev k : ℕ
+  k = c .loop .fuel
 
-  putting-done : (s : List ℕ) (at last k : ℕ) → Putting s at last k → coming at last k ≡ [] → s ≡ setOf (numbersOf (entriesIn any v n))
+  pub turn-refused : {x g : ℕ} → o ≡ Refused x g → P []
+  turn-refused is = subst P (none-refused p v n (countIn n) at last k (c .loop .going) o (c .judging) _ _ is) (c .loop .holds)
+
+  pub turn-end : {u : ℕ} → o ≡ End u → P []
+  turn-end is = subst P (none-end p v n (countIn n) at last k (c .loop .going) o (c .judging) _ is) (c .loop .holds)
+
+  module _ {f a z : ℕ} (is : o ≡ Passed f a z) where
+    pub turn-room : at + fieldNoteSize ≤ length n
+    turn-room = note-here p v n (countIn n) at last k (c .loop .going) o (c .judging) f a z is
+
+    pub turn-good : Good p v (countIn n) last f a z
+    turn-good = passing p v (countIn n) last (drop at n) f a z (passed-here p v n (countIn n) at last k (c .loop .going) o (c .judging) f a z is) .good
+
+    pub turn-here : P (entry f a z ∷ passed p v (countIn n) (k - 1) f (drop (at + fieldNoteSize) n))
+    turn-here = subst P (one-more p v n (countIn n) at last k (c .loop .going) o (c .judging) f a z is) (c .loop .holds)
+
+    pub turn-next : {Q : List Entry → Type 0} → Q (passed p v (countIn n) (k - 1) f (drop (at + fieldNoteSize) n)) → Loop p v n Q (at + fieldNoteSize) f
+    turn-next q = record { fuel = k - 1; going = going-next p v n (countIn n) at last k (c .loop .going) o (c .judging) f a z is; holds = q }
+
+-- `fields_in`: the fields put into the set s and those still to come make the whole set.
+pub record Naming (v n s : List ℕ) (es : List Entry) : Type 0 where
+  pub whole : setFrom noFields (numbersOf (entriesIn any v n)) ≡ setFrom s (numbersOf es)
+
+module _ {v n s : List ℕ} where
+  pub naming-first : s ≡ noFields → Naming v n s (entriesIn any v n)
+  naming-first e = record { whole = rw e }
+
+  pub naming-with : {f a z : ℕ} {s′ : List ℕ} {es : List Entry} → Naming v n s (entry f a z ∷ es) → s′ ≡ withField s f → Naming v n s′ es
   unfolding setFrom numbersOf
-  putting-done s at last k c e = sym (sym (fields-set v n) ∙ c .whole ∙ ap (λ (es : List Entry). setFrom s (numbersOf es)) e)
+  naming-with c e = record { whole = c .whole ∙ rw e }
 
-  module _ (s : List ℕ) (at last k : ℕ) (c : Putting s at last k) (o : Judged) (j : o ≡ judged any v m last (take (length n - at) (drop at n))) where
-    pub putting-refused : (x g : ℕ) → o ≡ Refused x g → s ≡ setOf (numbersOf (entriesIn any v n))
-    putting-refused x g is = putting-done s at last k c (none-refused any v n m at last k (c .going) o j x g is)
+  pub naming-done : Naming v n s [] → s ≡ setOf (numbersOf (entriesIn any v n))
+  unfolding setFrom numbersOf
+  naming-done c = sym (sym (fields-set v n) ∙ c .whole)
 
-    pub putting-end : (u : ℕ) → o ≡ End u → s ≡ setOf (numbersOf (entriesIn any v n))
-    putting-end u is = putting-done s at last k c (none-end any v n m at last k (c .going) o j u is)
+-- `padded_in`: the same of the fields that are padded.
+pub record Padding (t : Table) (v n s : List ℕ) (es : List Entry) : Type 0 where
+  pub whole : setFrom noFields (shortIn t (entriesIn any v n)) ≡ setFrom s (shortIn t es)
 
-    pub putting-next : (f a z : ℕ) (s′ : List ℕ) → o ≡ Passed f a z → s′ ≡ withField s f → Putting s′ (at + fieldNoteSize) f (k - 1)
-    unfolding setFrom numbersOf
-    putting-next f a z s′ is e =
-        record {
-          going = going-next any v n m at last k (c .going) o j f a z is;
-          whole = c .whole ∙ ap (λ (es : List Entry). setFrom s (numbersOf es)) (one-more any v n m at last k (c .going) o j f a z is) ∙ rw e;
-        }
+module _ {t : Table} {v n s : List ℕ} where
+  pub padding-first : s ≡ noFields → Padding t v n s (entriesIn any v n)
+  padding-first e = record { whole = rw e }
 
-    pub putting-room : (f a z : ℕ) → o ≡ Passed f a z → at + fieldNoteSize ≤ length n
-    putting-room f a z is = note-here any v n m at last k (c .going) o j f a z is
+  module _ {f a z : ℕ} {es : List Entry} {flag : Bool} (c : Padding t v n s (entry f a z ∷ es)) (tested : flag ≡ isShort t f z) where
+    pub padding-short : {s′ : List ℕ} → flag ≡ true → s′ ≡ withField s f → Padding t v n s′ es
+    unfolding setFrom shortIn
+    padding-short y e = record { whole = c .whole ∙ rw (← tested, y, e) }
 
-  -- The fields that are padded, put into a set.
-  pub record Padding (t : Table) (s : List ℕ) (at last k : ℕ) : Type 0 where
-    pub going : Going any v n m at last k
-    pub whole : setFrom noFields (shortIn t (entriesIn any v n)) ≡ setFrom s (shortIn t (coming at last k))
+    pub padding-long : flag ≡ false → Padding t v n s es
+    unfolding setFrom shortIn
+    padding-long y = record { whole = c .whole ∙ rw (← tested, y) }
 
-  pub padding-first : (t : Table) → headSize ≤ length n → (s : List ℕ) → s ≡ noFields → Padding t s headSize 0 (length n)
-  unfolding entriesIn
-  padding-first t h s e = record { going = going-first any v n m h; whole = rw e }
-
-  padding-done : (t : Table) (s : List ℕ) (at last k : ℕ) → Padding t s at last k → coming at last k ≡ [] → s ≡ setOf (shortIn t (entriesIn any v n))
+  pub padding-done : Padding t v n s [] → s ≡ setOf (shortIn t (entriesIn any v n))
   unfolding setFrom shortIn
-  padding-done t s at last k c e = sym (sym (short-set t v n) ∙ c .whole ∙ ap (λ (es : List Entry). setFrom s (shortIn t es)) e)
+  padding-done c = sym (sym (short-set t v n) ∙ c .whole)
 
-  module _ (t : Table) (s : List ℕ) (at last k : ℕ) (c : Padding t s at last k) (o : Judged) (j : o ≡ judged any v m last (take (length n - at) (drop at n))) where
-    pub padding-refused : (x g : ℕ) → o ≡ Refused x g → s ≡ setOf (shortIn t (entriesIn any v n))
-    padding-refused x g is = padding-done t s at last k c (none-refused any v n m at last k (c .going) o j x g is)
+-- A field that passes the cleaning writer's test: its size as the code has it, and bounds.
+module _ {t : Table} (small : Small t) {v : List ℕ} {m last f a z : ℕ} (g : Good (testOf t Clean) v m last f a z) where
+  abbrev bytes : List ℕ
+  bytes = fieldBytes t f (contentOf v a z)
 
-    pub padding-end : (u : ℕ) → o ≡ End u → s ≡ setOf (shortIn t (entriesIn any v n))
-    padding-end u is = padding-done t s at last k c (none-end any v n m at last k (c .going) o j u is)
+  content-long : length (contentOf v a z) ≡ z
+  content-long = length-take-le z (drop a v) (omega (arith, length-drop a v, g .inside))
 
-    module _ (f a z : ℕ) (is : o ≡ Passed f a z) (flag : Bool) (tested : flag ≡ isShort t f z) where
-      step : setFrom noFields (shortIn t (entriesIn any v n)) ≡ setFrom s (cond flag (f ∷ shortIn t (coming (at + fieldNoteSize) f (k - 1))) (shortIn t (coming (at + fieldNoteSize) f (k - 1))))
-      unfolding shortIn
-      step = c .whole ∙ ap (λ (es : List Entry). setFrom s (shortIn t es)) (one-more any v n m at last k (c .going) o j f a z is) ∙ rw (← tested)
+  good-clean : cleanFault t f (contentOf v a z) ≡ 0
+  unfolding testOf
+  good-clean = g .ruled
 
-      pub padding-short : (s′ : List ℕ) → flag ≡ true → s′ ≡ withField s f → Padding t s′ (at + fieldNoteSize) f (k - 1)
-      unfolding setFrom
-      padding-short s′ y e = record { going = going-next any v n m at last k (c .going) o j f a z is; whole = step ∙ rw (y, e) }
+  good-size : length bytes ≡ cond (leb z longest) (writtenSize t f z) 0
+  good-size =
+      sym (ap (λ (q : ℕ). cond (leb q longest) (writtenSize t f q) 0) (sym content-long) ∙ clean-size t f (contentOf v a z) small good-clean)
 
-      pub padding-long : flag ≡ false → Padding t s (at + fieldNoteSize) f (k - 1)
-      padding-long y = record { going = going-next any v n m at last k (c .going) o j f a z is; whole = step ∙ rw y }
+  good-small : length bytes ≤ 2001
+  good-small = omega (arith, written-size t f (contentOf v a z), written-most t f (contentOf v a z) small good-clean)
 
-    pub padding-room : (f a z : ℕ) → o ≡ Passed f a z → at + fieldNoteSize ≤ length n
-    padding-room f a z is = note-here any v n m at last k (c .going) o j f a z is
+  good-above : last < f
+  unfolding numberAllowed
+  good-above = ltb-true last f (both-left (ltb last f) (both (isField f) (leb f (64 * m))) (g .allowed))
 
--- Passes by the cleaning writer's test: every content is short enough to be measured and written.
-module _ (t : Table) (small : Small t) (v n : List ℕ) where
-  abbrev clean : Test
-  clean = testOf t Clean
+  good-most : f ≤ 192
+  good-most = field-high f (allowed-field m last f (g .allowed))
 
-  abbrev left : ℕ → ℕ → ℕ → List Entry
-  left at last k = passed clean v (countIn n) k last (drop at n)
+-- the fields that pass take at most 2001 bytes for each number there is
+body-few : (t : Table) → Small t → (v : List ℕ) (m k last : ℕ) (s : List ℕ) → last ≤ 192 → length (bodyOf t v (passed (testOf t Clean) v m k last s)) + 2001 * last ≤ 2001 * 192
+unfolding bodyOf passed
+body-few t small v m zero last s h = omega arith
+body-few t small v m (suc k) last s h =
+    by-judged (judged (testOf t Clean) v m last s)
+    (λ x f e. rw (passed-bad (testOf t Clean) v m k last s x f e) (omega arith))
+    (λ u e. rw (passed-end (testOf t Clean) v m k last s u e) (omega arith))
+    (λ f a z e.
+    let g = passing (testOf t Clean) v m last s f a z e .good in
+    let rest = body-few t small v m k f (drop fieldNoteSize s) (good-most small g) in
+    rw (passed-more (testOf t Clean) v m k last s f a z e)
+    (omega (arith, length-append (fieldBytes t f (contentOf v a z)) (bodyOf t v (passed (testOf t Clean) v m k f (drop fieldNoteSize s))), good-small small g, good-above small g, rest)))
 
-  module _ (at last k : ℕ) (g : Going clean v n (countIn n) at last k) (o : Judged) (j : o ≡ judged clean v (countIn n) last (take (length n - at) (drop at n))) (f a z : ℕ) (is : o ≡ Passed f a z) where
-    is-good : Good clean v (countIn n) last f a z
-    is-good = passing clean v (countIn n) last (drop at n) f a z (passed-here clean v n (countIn n) at last k g o j f a z is) .good
+body-small : (t : Table) → Small t → (v n : List ℕ) → length (bodyOf t v (entriesIn (testOf t Clean) v n)) ≤ 400000
+unfolding entriesIn
+body-small t small v n = omega (arith, body-few t small v (countIn n) (length n) 0 (drop headSize n) (omega arith))
 
-    pub good-inside : a + z ≤ length v
-    good-inside = is-good .inside
+-- `measure`: the size so far and that of the fields still to come make the whole.
+pub record Measuring (t : Table) (v n : List ℕ) (total : ℕ) (es : List Entry) : Type 0 where
+  pub whole : length (bodyOf t v (entriesIn (testOf t Clean) v n)) ≡ total + length (bodyOf t v es)
 
-    content-long : length (contentOf v a z) ≡ z
-    content-long = length-take-le z (drop a v) (omega (arith, length-drop a v, is-good .inside))
+pub measuring-first : {t : Table} {v n : List ℕ} → Measuring t v n 0 (entriesIn (testOf t Clean) v n)
+measuring-first = record { whole = omega arith }
 
-    pub good-clean : cleanFault t f (contentOf v a z) ≡ 0
-    unfolding testOf
-    good-clean = is-good .ruled
-
-    pub good-size : cond (leb z longest) (writtenSize t f z) 0 ≡ length (fieldBytes t f (contentOf v a z))
-    good-size =
-        ap (λ (q : ℕ). cond (leb q longest) (writtenSize t f q) 0) (sym content-long)
-        ∙ clean-size t f (contentOf v a z) small good-clean
-
-    good-above : last < f
-    unfolding numberAllowed
-    good-above = ltb-true last f (both-left (ltb last f) (both (isField f) (leb f (64 * countIn n))) (is-good .allowed))
-
-    good-most : f ≤ 192
-    good-most = field-high f (allowed-field (countIn n) last f (is-good .allowed))
-
-    size-small : length (fieldBytes t f (contentOf v a z)) ≤ 2001
-    size-small =
-        let l = written-size t f (contentOf v a z) in
-        omega (arith, l, written-most t f (contentOf v a z) small good-clean)
-
-  -- What the fields take.
-  pub record Measuring (total at last k : ℕ) : Type 0 where
-    pub going : Going clean v n (countIn n) at last k
-    pub whole : length (bodyOf t v (entriesIn clean v n)) ≡ total + length (bodyOf t v (left at last k))
-    pub few : total ≤ 2001 * last
-    pub low : last ≤ 192
-
-  pub measuring-first : headSize ≤ length n → Measuring 0 headSize 0 (length n)
-  unfolding entriesIn
-  measuring-first h = record { going = going-first clean v n (countIn n) h; whole = omega arith; few = omega arith; low = omega arith }
-
-  measuring-done : (total at last k : ℕ) → Measuring total at last k → left at last k ≡ [] → total ≡ length (bodyOf t v (entriesIn clean v n))
+module _ {t : Table} (small : Small t) {v n : List ℕ} {total : ℕ} where
+  pub measuring-done : Measuring t v n total [] → (total ≡ length (bodyOf t v (entriesIn (testOf t Clean) v n))) × (total ≤ 400000)
   unfolding bodyOf
-  measuring-done total at last k c e = sym (c .whole ∙ ap (λ (es : List Entry). total + length (bodyOf t v es)) e ∙ omega arith)
+  measuring-done c = (omega (arith, c .whole), omega (arith, c .whole, body-small t small v n))
 
-  module _ (total at last k : ℕ) (c : Measuring total at last k) (o : Judged) (j : o ≡ judged clean v (countIn n) last (take (length n - at) (drop at n))) where
-    pub measuring-refused : (x g : ℕ) → o ≡ Refused x g → total ≡ length (bodyOf t v (entriesIn clean v n))
-    measuring-refused x g is = measuring-done total at last k c (none-refused clean v n (countIn n) at last k (c .going) o j x g is)
+  module _ {m last f a z size : ℕ} {es : List Entry} (c : Measuring t v n total (entry f a z ∷ es)) (g : Good (testOf t Clean) v m last f a z) (sized : size ≡ cond (leb z longest) (writtenSize t f z) 0) where
+    pub measuring-more : Measuring t v n (total + size) es
+    unfolding bodyOf
+    measuring-more = record { whole = omega (arith, c .whole, length-append (bytes small g) (bodyOf t v es), good-size small g, sized) }
 
-    pub measuring-end : (u : ℕ) → o ≡ End u → total ≡ length (bodyOf t v (entriesIn clean v n))
-    measuring-end u is = measuring-done total at last k c (none-end clean v n (countIn n) at last k (c .going) o j u is)
+    pub measuring-fits : total + size ≤ 400000
+    measuring-fits = omega (arith, measuring-more .whole, body-small t small v n)
 
-    module _ (f a z : ℕ) (is : o ≡ Passed f a z) (size : ℕ) (sized : size ≡ cond (leb z longest) (writtenSize t f z) 0) where
-      size-is : size ≡ length (fieldBytes t f (contentOf v a z))
-      size-is = sized ∙ good-size at last k (c .going) o j f a z is
+-- `write_body`: d is the output where the loop began, o as it is now, w how much of it is written.
+pub record Writing (t : Table) (v n d o : List ℕ) (w : ℕ) (es : List Entry) : Type 0 where
+  pub written : Written (bodyOf t v (entriesIn (testOf t Clean) v n)) d o (bodyOf t v es) w
 
-      pub measuring-fits : total + size ≤ 400000
-      measuring-fits = omega (arith, size-is, size-small at last k (c .going) o j f a z is, c .few, c .low)
+pub writing-first : {t : Table} {v n d : List ℕ} → Writing t v n d d 0 (entriesIn (testOf t Clean) v n)
+writing-first {t} {v} {n} {d} = record { written = written-none (bodyOf t v (entriesIn (testOf t Clean) v n)) d }
 
-      pub measuring-next : Measuring (total + size) (at + fieldNoteSize) f (k - 1)
-      unfolding bodyOf
-      measuring-next =
-          let b = fieldBytes t f (contentOf v a z) in
-          let rest = bodyOf t v (passed clean v (countIn n) (k - 1) f (drop (at + fieldNoteSize) n)) in
-          let e : length (bodyOf t v (left at last k)) ≡ length (b ++ rest) =
-          ap (λ (es : List Entry). length (bodyOf t v es)) (one-more clean v n (countIn n) at last k (c .going) o j f a z is) in
-          record {
-            going = going-next clean v n (countIn n) at last k (c .going) o j f a z is;
-            whole = c .whole ∙ omega (arith, e, length-append b rest, size-is);
-            few = omega (arith, size-is, size-small at last k (c .going) o j f a z is, c .few, good-above at last k (c .going) o j f a z is);
-            low = good-most at last k (c .going) o j f a z is;
-          }
-
-    pub measuring-room : (f a z : ℕ) → o ≡ Passed f a z → at + fieldNoteSize ≤ length n
-    measuring-room f a z is = note-here clean v n (countIn n) at last k (c .going) o j f a z is
-
-  -- The fields written: d is the output where the loop began, r as it is now, w how much of it is written.
-  pub record Writing (d r : List ℕ) (w at last k : ℕ) : Type 0 where
-    pub going : Going clean v n (countIn n) at last k
-    pub written : Written (bodyOf t v (entriesIn clean v n)) d r (bodyOf t v (left at last k)) w
-
-  pub writing-first : headSize ≤ length n → (d : List ℕ) → Writing d d 0 headSize 0 (length n)
-  unfolding entriesIn
-  writing-first h d = record { going = going-first clean v n (countIn n) h; written = written-none (bodyOf t v (entriesIn clean v n)) d }
-
-  writing-done : (d r : List ℕ) (w at last k : ℕ) → Writing d r w at last k → left at last k ≡ [] → r ≡ lay (bodyOf t v (entriesIn clean v n)) d
+module _ {t : Table} {v n d o : List ℕ} {w : ℕ} where
+  pub writing-done : Writing t v n d o w [] → o ≡ lay (bodyOf t v (entriesIn (testOf t Clean) v n)) d
   unfolding bodyOf
-  writing-done d r w at last k c e = written-end (bodyOf t v (entriesIn clean v n)) d r (bodyOf t v (left at last k)) w (c .written) (ap (bodyOf t v) e) .1
+  writing-done c = written-end (bodyOf t v (entriesIn (testOf t Clean) v n)) d o [] w (c .written) refl .1
 
-  module _ (d r : List ℕ) (w at last k : ℕ) (c : Writing d r w at last k) (o : Judged) (j : o ≡ judged clean v (countIn n) last (take (length n - at) (drop at n))) where
-    pub writing-refused : (x g : ℕ) → o ≡ Refused x g → r ≡ lay (bodyOf t v (entriesIn clean v n)) d
-    writing-refused x g is = writing-done d r w at last k c (none-refused clean v n (countIn n) at last k (c .going) o j x g is)
+  module _ (small : Small t) {m last f a z size : ℕ} {es : List Entry} (c : Writing t v n d o w (entry f a z ∷ es)) (g : Good (testOf t Clean) v m last f a z) (sized : size ≡ cond (leb z longest) (writtenSize t f z) 0) (room : length (bodyOf t v (entriesIn (testOf t Clean) v n)) ≤ length d) where
+    pub writing-fits : w + size ≤ length o
+    unfolding bodyOf
+    writing-fits =
+        omega (
+          arith,
+          written-room (bodyOf t v (entriesIn (testOf t Clean) v n)) d o (bytes small g ++ bodyOf t v es) w (c .written),
+          length-append (bytes small g) (bodyOf t v es),
+          good-size small g,
+          sized,
+          c .written .size,
+          room,
+        )
 
-    pub writing-end : (u : ℕ) → o ≡ End u → r ≡ lay (bodyOf t v (entriesIn clean v n)) d
-    writing-end u is = writing-done d r w at last k c (none-end clean v n (countIn n) at last k (c .going) o j u is)
-
-    module _ (f a z : ℕ) (is : o ≡ Passed f a z) (room : length (bodyOf t v (entriesIn clean v n)) ≤ length d) (size : ℕ) (sized : size ≡ cond (leb z longest) (writtenSize t f z) 0) where
-      abbrev bytes : List ℕ
-      bytes = fieldBytes t f (contentOf v a z)
-
-      abbrev rest : List ℕ
-      rest = bodyOf t v (passed clean v (countIn n) (k - 1) f (drop (at + fieldNoteSize) n))
-
-      next : bodyOf t v (left at last k) ≡ bytes ++ rest
-      unfolding bodyOf
-      next = ap (bodyOf t v) (one-more clean v n (countIn n) at last k (c .going) o j f a z is)
-
-      sized-is : length bytes ≡ size
-      sized-is = sym (sized ∙ good-size at last k (c .going) o j f a z is)
-
-      pub writing-fits : w + size ≤ length r
-      writing-fits =
-          omega (
-            arith,
-            written-room (bodyOf t v (entriesIn clean v n)) d r (bodyOf t v (left at last k)) w (c .written),
-            ap length next,
-            length-append bytes rest,
-            sized-is,
-            c .written .size,
-          )
-
-      pub writing-next : (q : List ℕ) → q ≡ placed (fieldBytes t f (take (a + z - a) (drop a v))) (midOf w (length r - w) r)
-          → Writing d (putMid w (length r - w) r q) (w + size) (at + fieldNoteSize) f (k - 1)
-      writing-next q h =
-          record {
-            going = going-next clean v n (countIn n) at last k (c .going) o j f a z is;
-            written =
-                written-more (bodyOf t v (entriesIn clean v n)) d r (bodyOf t v (left at last k)) bytes rest q w size (c .written) next sized-is writing-fits
-                (h ∙ ap (λ (x : ℕ). placed (fieldBytes t f (take x (drop a v))) (midOf w (length r - w) r)) (add-sub-cancel-left a z));
-          }
-
-    pub writing-room : (f a z : ℕ) → o ≡ Passed f a z → at + fieldNoteSize ≤ length n
-    writing-room f a z is = note-here clean v n (countIn n) at last k (c .going) o j f a z is
+    pub writing-more : {q : List ℕ} → q ≡ placed (fieldBytes t f (take (a + z - a) (drop a v))) (midOf w (length o - w) o) → Writing t v n d (putMid w (length o - w) o q) (w + size) es
+    unfolding bodyOf
+    writing-more {q} h =
+        record {
+          written =
+              written-more (bodyOf t v (entriesIn (testOf t Clean) v n)) d o (bytes small g ++ bodyOf t v es) (bytes small g) (bodyOf t v es) q w size (c .written) refl (good-size small g ∙ sym sized) writing-fits
+              (h ∙ ap (λ (x : ℕ). placed (fieldBytes t f (take x (drop a v))) (midOf w (length o - w) o)) (add-sub-cancel-left a z));
+        }

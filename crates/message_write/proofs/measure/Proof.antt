@@ -1,26 +1,44 @@
 -- What is measured so far and what is still to come make the whole (Passing).
-use Prim.Native.Nat.{ℕ, _+_, _-_}
+use Prim.Native.Nat.{_+_, _-_}
 use lib.ListN.{length}
 use Rattle.field_table.specs.House.{house}
 use Rattle.field_table.proofs.Rows.{house-small}
+use Rattle.message_walk.specs.declared.Rule.the-variants.{Clean}
+use Rattle.message_walk.specs.Answers.{testOf}
 use Rattle.message_walk.proofs.Ends.{counted}
-use Rattle.message_write.proofs.Passing.{Measuring, measuring-first, measuring-refused, measuring-end, measuring-fits, measuring-next, measuring-room}
+use Rattle.message_write.proofs.Passing.{Loop, loop-first, Turn, turn-refused, turn-end, turn-room, turn-good, turn-here, turn-next, Measuring, measuring-first, measuring-done, measuring-fits, measuring-more}
 use borrow.Author.Needs.{needs}
 use native.Mathlib.Omega.{arith}
 use Rattle.message_write.proofs.measure.Statement.{statement}
 use Rattle.message_write.proofs.measure.Tie as tie
 
 abbrev Inv-loop : tie.InvT-loop
-Inv-loop values notes count total₀ last₀ at₀ total last at = (k : ℕ) × Measuring house house-small values notes total at last k
+Inv-loop values notes count total₀ last₀ at₀ total last at = Loop (testOf house Clean) values notes (Measuring house values notes total) at last
 
 abbrev μ-loop : tie.MeasureT-loop
 μ-loop values notes count total₀ last₀ at₀ total last at = length notes + 1 - at
+
+-- the turn of the loop in which a note was judged
+abbrev start : tie.At-loop Inv-loop μ-loop → tie.Start Inv-loop μ-loop
+start l = l .before .before .before .before
+
+abbrev here : tie.After-judge Inv-loop μ-loop → tie.At-loop Inv-loop μ-loop
+here c = c .before .before .before
+
+turn-at :
+    (c : tie.After-judge Inv-loop μ-loop) →
+    Turn (testOf house Clean) (start (here c) .args .values .now) (start (here c) .args .notes .now)
+    (Measuring house (start (here c) .args .values .now) (start (here c) .args .notes .now) (here c .loop .total))
+    (here c .loop .at)
+    (here c .loop .last)
+    (c .judge .result)
+turn-at c = record { loop = here c .loop .inv; judging = counted _ _ _ _ _ _ _ (c .judge .ensures) (here c .before .count-in .ensures) }
 
 count-in-requires : tie.Need-count-in-requires Inv-loop μ-loop
 count-in-requires c κs = search needs
 
 loop-holds : tie.Need-loop-holds Inv-loop μ-loop
-loop-holds c = (length (c .before .before .before .args .notes .now), measuring-first house house-small _ _ (c .before .before .before .pre))
+loop-holds c = loop-first (c .before .before .before .pre) measuring-first
 
 sub-judge : tie.Need-sub-judge Inv-loop μ-loop
 sub-judge c = search needs
@@ -38,31 +56,13 @@ enum-told : tie.Need-enum-told Inv-loop μ-loop
 enum-told c = search needs
 
 returns : tie.Need-returns Inv-loop μ-loop
-returns c =
-    let j = c .before .before in
-    let l = j .before .before .before in
-    let s = l .before in
-    let a = s .before .before .before .args in
-    let v = a .values .now in
-    let n = a .notes .now in
-    let w = l .loop .inv .1 in
-    let e = counted _ v _ _ _ _ _ (j .judge .ensures) (s .count-in .ensures) in
-    (measuring-refused house house-small v n _ _ _ _ w _ e _ _ (c .enum-told .given .1), omega (arith, w .few, w .low))
+returns c = measuring-done house-small (turn-refused (turn-at (c .before .before)) (c .enum-told .given .1))
 
 enum-told-2 : tie.Need-enum-told-2 Inv-loop μ-loop
 enum-told-2 c = search needs
 
 returns-2 : tie.Need-returns-2 Inv-loop μ-loop
-returns-2 c =
-    let j = c .before .before in
-    let l = j .before .before .before in
-    let s = l .before in
-    let a = s .before .before .before .args in
-    let v = a .values .now in
-    let n = a .notes .now in
-    let w = l .loop .inv .1 in
-    let e = counted _ v _ _ _ _ _ (j .judge .ensures) (s .count-in .ensures) in
-    (measuring-end house house-small v n _ _ _ _ w _ e _ (c .enum-told2 .given .1), omega (arith, w .few, w .low))
+returns-2 c = measuring-done house-small (turn-end (turn-at (c .before .before)) (c .enum-told2 .given .1))
 
 enum-known-number : tie.Need-enum-known-number Inv-loop μ-loop
 enum-known-number c = search needs
@@ -72,54 +72,24 @@ written-size-requires c κs = search needs
 
 add-total : tie.Need-add-total Inv-loop μ-loop
 add-total c =
-    let j = c .before .before .before .before in
-    let l = j .before .before .before in
-    let s = l .before in
-    let a = s .before .before .before .args in
-    let v = a .values .now in
-    let n = a .notes .now in
-    let w = l .loop .inv .1 in
-    let e = counted _ v _ _ _ _ _ (j .judge .ensures) (s .count-in .ensures) in
-    omega (arith, measuring-fits house house-small v n _ _ _ _ w _ e _ _ _ (c .before .before .number .given .1) _ (c .written-size .ensures))
+    let k = turn-at (c .before .before .before .before) in
+    let is = c .before .before .number .given .1 in
+    omega (arith, measuring-fits house-small (turn-here k is) (turn-good k is) (c .written-size .ensures))
 
 add-at : tie.Need-add-at Inv-loop μ-loop
-add-at c =
-    let j = c .before .before .before .before in
-    let l = j .before .before .before in
-    let s = l .before in
-    let a = s .before .before .before .args in
-    let v = a .values .now in
-    let n = a .notes .now in
-    let w = l .loop .inv .1 in
-    let e = counted _ v _ _ _ _ _ (j .judge .ensures) (s .count-in .ensures) in
-    omega (arith, measuring-room house house-small v n _ _ _ _ w _ e _ _ _ (c .before .before .number .given .1))
+add-at c = omega (arith, turn-room (turn-at (c .before .before .before .before)) (c .before .before .number .given .1))
 
 loop-less : tie.Need-loop-less Inv-loop μ-loop
-loop-less c =
-    let j = c .before .before .before .before in
-    let l = j .before .before .before in
-    let s = l .before in
-    let a = s .before .before .before .args in
-    let v = a .values .now in
-    let n = a .notes .now in
-    let w = l .loop .inv .1 in
-    let e = counted _ v _ _ _ _ _ (j .judge .ensures) (s .count-in .ensures) in
-    omega (arith, measuring-room house house-small v n _ _ _ _ w _ e _ _ _ (c .before .before .number .given .1))
+loop-less c = omega (arith, turn-room (turn-at (c .before .before .before .before)) (c .before .before .number .given .1))
 
 loop-again : tie.Need-loop-again Inv-loop μ-loop
 loop-again c =
-    let j = c .before .before .before .before in
-    let l = j .before .before .before in
-    let s = l .before in
-    let a = s .before .before .before .args in
-    let v = a .values .now in
-    let n = a .notes .now in
-    let w = l .loop .inv .1 in
-    let e = counted _ v _ _ _ _ _ (j .judge .ensures) (s .count-in .ensures) in
-    (l .loop .inv .0 - 1, measuring-next house house-small v n _ _ _ _ w _ e _ _ _ (c .before .before .number .given .1) _ (c .written-size .ensures))
+    let k = turn-at (c .before .before .before .before) in
+    let is = c .before .before .number .given .1 in
+    turn-next k is (measuring-more house-small (turn-here k is) (turn-good k is) (c .written-size .ensures))
 
 returns-3 : tie.Need-returns-3 Inv-loop μ-loop
-returns-3 c = absurd (omega (arith, c .loop-test .left, c .before .loop .inv .1 .going .inside))
+returns-3 c = absurd (omega (arith, c .loop-test .left, c .before .loop .inv .going .inside))
 
 pub measure-spec : {M : Type 1} → statement M
 measure-spec =

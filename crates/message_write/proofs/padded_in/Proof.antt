@@ -1,19 +1,36 @@
 -- The padded fields put in so far and those still to come make the whole set (Passing).
-use Prim.Native.Nat.{ℕ, _+_, _-_}
+use Prim.Native.Nat.{_+_, _-_}
 use lib.ListN.{length}
 use Rattle.field_table.specs.House.{house}
+use Rattle.message_walk.specs.Walk.{any}
 use Rattle.message_walk.proofs.Ends.{judged-any}
-use Rattle.message_write.proofs.Passing.{Padding, padding-first, padding-refused, padding-end, padding-short, padding-long, padding-room}
+use Rattle.message_write.proofs.Passing.{Loop, loop-first, Turn, turn-refused, turn-end, turn-room, turn-here, turn-next, Padding, padding-first, padding-short, padding-long, padding-done}
 use borrow.Author.Needs.{needs}
 use native.Mathlib.Omega.{arith}
 use Rattle.message_write.proofs.padded_in.Statement.{statement}
 use Rattle.message_write.proofs.padded_in.Tie as tie
 
 abbrev Inv-loop : tie.InvT-loop
-Inv-loop values notes count fields₀ last₀ at₀ fields last at = (k : ℕ) × Padding values notes house (fields .bits) at last k
+Inv-loop values notes count fields₀ last₀ at₀ fields last at = Loop any values notes (Padding house values notes (fields .bits)) at last
 
 abbrev μ-loop : tie.MeasureT-loop
 μ-loop values notes count fields₀ last₀ at₀ fields last at = length notes + 1 - at
+
+-- the turn of the loop in which a note was judged
+abbrev start : tie.At-loop Inv-loop μ-loop → tie.Start Inv-loop μ-loop
+start l = l .before .before .before .before .before
+
+abbrev here : tie.After-judge Inv-loop μ-loop → tie.At-loop Inv-loop μ-loop
+here c = c .before .before .before
+
+turn-at :
+    (c : tie.After-judge Inv-loop μ-loop) →
+    Turn any (start (here c) .args .values .now) (start (here c) .args .notes .now)
+    (Padding house (start (here c) .args .values .now) (start (here c) .args .notes .now) (here c .loop .fields .bits))
+    (here c .loop .at)
+    (here c .loop .last)
+    (c .judge .result)
+turn-at c = record { loop = here c .loop .inv; judging = judged-any house _ _ _ _ _ _ (c .judge .ensures) (here c .before .before .count-in .ensures) }
 
 count-in-requires : tie.Need-count-in-requires Inv-loop μ-loop
 count-in-requires c κs = search needs
@@ -22,9 +39,7 @@ none-requires : tie.Need-none-requires Inv-loop μ-loop
 none-requires c κs = search needs
 
 loop-holds : tie.Need-loop-holds Inv-loop μ-loop
-loop-holds c =
-    let st = c .before .before .before .before in
-    (length (st .args .notes .now), padding-first _ _ _ (st .pre) _ (c .none .ensures))
+loop-holds c = loop-first (c .before .before .before .before .pre) (padding-first (c .none .ensures))
 
 sub-judge : tie.Need-sub-judge Inv-loop μ-loop
 sub-judge c = search needs
@@ -42,31 +57,13 @@ enum-told : tie.Need-enum-told Inv-loop μ-loop
 enum-told c = search needs
 
 returns : tie.Need-returns Inv-loop μ-loop
-returns c =
-    let j = c .before .before in
-    let l = j .before .before .before in
-    let s = l .before .before in
-    let a = s .before .before .before .args in
-    let v = a .values .now in
-    let n = a .notes .now in
-    let w = l .loop .inv .1 in
-    let e = judged-any house v _ _ _ _ _ (j .judge .ensures) (s .count-in .ensures) in
-    padding-refused v n house _ _ _ _ w _ e _ _ (c .enum-told .given .1)
+returns c = padding-done (turn-refused (turn-at (c .before .before)) (c .enum-told .given .1))
 
 enum-told-2 : tie.Need-enum-told-2 Inv-loop μ-loop
 enum-told-2 c = search needs
 
 returns-2 : tie.Need-returns-2 Inv-loop μ-loop
-returns-2 c =
-    let j = c .before .before in
-    let l = j .before .before .before in
-    let s = l .before .before in
-    let a = s .before .before .before .args in
-    let v = a .values .now in
-    let n = a .notes .now in
-    let w = l .loop .inv .1 in
-    let e = judged-any house v _ _ _ _ _ (j .judge .ensures) (s .count-in .ensures) in
-    padding-end v n house _ _ _ _ w _ e _ (c .enum-told2 .given .1)
+returns-2 c = padding-done (turn-end (turn-at (c .before .before)) (c .enum-told2 .given .1))
 
 enum-known-number : tie.Need-enum-known-number Inv-loop μ-loop
 enum-known-number c = search needs
@@ -78,79 +75,31 @@ with-requires : tie.Need-with-requires Inv-loop μ-loop
 with-requires c κs = search needs
 
 add-at : tie.Need-add-at Inv-loop μ-loop
-add-at c =
-    let j = c .before .before .before .before .before .before in
-    let l = j .before .before .before in
-    let s = l .before .before in
-    let a = s .before .before .before .args in
-    let v = a .values .now in
-    let n = a .notes .now in
-    let w = l .loop .inv .1 in
-    let e = judged-any house v _ _ _ _ _ (j .judge .ensures) (s .count-in .ensures) in
-    omega (arith, padding-room v n house _ _ _ _ w _ e _ _ _ (c .before .before .before .before .number .given .1))
+add-at c = omega (arith, turn-room (turn-at (c .before .before .before .before .before .before)) (c .before .before .before .before .number .given .1))
 
 loop-less : tie.Need-loop-less Inv-loop μ-loop
-loop-less c =
-    let j = c .before .before .before .before .before .before in
-    let l = j .before .before .before in
-    let s = l .before .before in
-    let a = s .before .before .before .args in
-    let v = a .values .now in
-    let n = a .notes .now in
-    let w = l .loop .inv .1 in
-    let e = judged-any house v _ _ _ _ _ (j .judge .ensures) (s .count-in .ensures) in
-    omega (arith, padding-room v n house _ _ _ _ w _ e _ _ _ (c .before .before .before .before .number .given .1))
+loop-less c = omega (arith, turn-room (turn-at (c .before .before .before .before .before .before)) (c .before .before .before .before .number .given .1))
 
 loop-again : tie.Need-loop-again Inv-loop μ-loop
 loop-again c =
-    let j = c .before .before .before .before .before .before in
-    let l = j .before .before .before in
-    let s = l .before .before in
-    let a = s .before .before .before .args in
-    let v = a .values .now in
-    let n = a .notes .now in
-    let w = l .loop .inv .1 in
-    let e = judged-any house v _ _ _ _ _ (j .judge .ensures) (s .count-in .ensures) in
-    (l .loop .inv .0 - 1, padding-short v n house _ _ _ _ w _ e _ _ _ (c .before .before .before .before .number .given .1) _ (c .before .before .is-short .ensures) _ (c .before .if1 .taken) (c .with .ensures))
+    let k = turn-at (c .before .before .before .before .before .before) in
+    let is = c .before .before .before .before .number .given .1 in
+    turn-next k is (padding-short (turn-here k is) (c .before .before .is-short .ensures) (c .before .if1 .taken) (c .with .ensures))
 
 add-at-2 : tie.Need-add-at-2 Inv-loop μ-loop
-add-at-2 c =
-    let j = c .before .before .before .before .before in
-    let l = j .before .before .before in
-    let s = l .before .before in
-    let a = s .before .before .before .args in
-    let v = a .values .now in
-    let n = a .notes .now in
-    let w = l .loop .inv .1 in
-    let e = judged-any house v _ _ _ _ _ (j .judge .ensures) (s .count-in .ensures) in
-    omega (arith, padding-room v n house _ _ _ _ w _ e _ _ _ (c .before .before .before .number .given .1))
+add-at-2 c = omega (arith, turn-room (turn-at (c .before .before .before .before .before)) (c .before .before .before .number .given .1))
 
 loop-less-2 : tie.Need-loop-less-2 Inv-loop μ-loop
-loop-less-2 c =
-    let j = c .before .before .before .before .before in
-    let l = j .before .before .before in
-    let s = l .before .before in
-    let a = s .before .before .before .args in
-    let v = a .values .now in
-    let n = a .notes .now in
-    let w = l .loop .inv .1 in
-    let e = judged-any house v _ _ _ _ _ (j .judge .ensures) (s .count-in .ensures) in
-    omega (arith, padding-room v n house _ _ _ _ w _ e _ _ _ (c .before .before .before .number .given .1))
+loop-less-2 c = omega (arith, turn-room (turn-at (c .before .before .before .before .before)) (c .before .before .before .number .given .1))
 
 loop-again-2 : tie.Need-loop-again-2 Inv-loop μ-loop
 loop-again-2 c =
-    let j = c .before .before .before .before .before in
-    let l = j .before .before .before in
-    let s = l .before .before in
-    let a = s .before .before .before .args in
-    let v = a .values .now in
-    let n = a .notes .now in
-    let w = l .loop .inv .1 in
-    let e = judged-any house v _ _ _ _ _ (j .judge .ensures) (s .count-in .ensures) in
-    (l .loop .inv .0 - 1, padding-long v n house _ _ _ _ w _ e _ _ _ (c .before .before .before .number .given .1) _ (c .before .is-short .ensures) (c .if1 .left))
+    let k = turn-at (c .before .before .before .before .before) in
+    let is = c .before .before .before .number .given .1 in
+    turn-next k is (padding-long (turn-here k is) (c .before .is-short .ensures) (c .if1 .left))
 
 returns-3 : tie.Need-returns-3 Inv-loop μ-loop
-returns-3 c = absurd (omega (arith, c .loop-test .left, c .before .loop .inv .1 .going .inside))
+returns-3 c = absurd (omega (arith, c .loop-test .left, c .before .loop .inv .going .inside))
 
 pub padded-in-spec : {M : Type 1} → statement M
 padded-in-spec =

@@ -1,26 +1,53 @@
 -- What is written so far and what is still to come make the whole (Passing).
-use Prim.Native.Nat.{ℕ, _+_, _-_}
+use Prim.Native.Nat.{_+_, _-_, _≤_}
 use lib.ListN.{length}
 use Rattle.field_table.specs.House.{house}
 use Rattle.field_table.proofs.Rows.{house-small}
+use Rattle.message_walk.specs.declared.Rule.the-variants.{Clean}
+use Rattle.message_walk.specs.Answers.{testOf}
 use Rattle.message_walk.proofs.Ends.{counted}
-use Rattle.message_write.proofs.Passing.{Writing, writing-first, writing-refused, writing-end, writing-fits, writing-next, writing-room, good-inside}
+use Rattle.message_write.proofs.Passing.{Loop, loop-first, Turn, turn-refused, turn-end, turn-room, turn-good, turn-here, turn-next, Writing, writing-first, writing-done, writing-fits, writing-more}
 use borrow.Author.Needs.{needs}
 use native.Mathlib.Omega.{arith}
 use Rattle.message_write.proofs.write_body.Statement.{statement}
 use Rattle.message_write.proofs.write_body.Tie as tie
 
 abbrev Inv-loop : tie.InvT-loop
-Inv-loop values notes out₀ count written₀ last₀ at₀ out written last at = (k : ℕ) × Writing house house-small values notes out₀ out written at last k
+Inv-loop values notes out₀ count written₀ last₀ at₀ out written last at = Loop (testOf house Clean) values notes (Writing house values notes out₀ out written) at last
 
 abbrev μ-loop : tie.MeasureT-loop
 μ-loop values notes out₀ count written₀ last₀ at₀ out written last at = length notes + 1 - at
+
+-- the turn of the loop in which a note was judged
+abbrev start : tie.At-loop Inv-loop μ-loop → tie.Start Inv-loop μ-loop
+start l = l .before .before .before .before .before
+
+abbrev here : tie.After-judge Inv-loop μ-loop → tie.At-loop Inv-loop μ-loop
+here c = c .before .before .before
+
+turn-at :
+    (c : tie.After-judge Inv-loop μ-loop) →
+    Turn (testOf house Clean) (start (here c) .args .values .now) (start (here c) .args .notes .now)
+    (Writing house (start (here c) .args .values .now) (start (here c) .args .notes .now) (start (here c) .args .out .now) (here c .loop .out) (here c .loop .written))
+    (here c .loop .at)
+    (here c .loop .last)
+    (c .judge .result)
+turn-at c = record { loop = here c .loop .inv; judging = counted _ _ _ _ _ _ _ (c .judge .ensures) (here c .before .count-in .ensures) }
+
+abbrev judged-in : tie.After-known-told Inv-loop μ-loop → tie.After-judge Inv-loop μ-loop
+judged-in c = c .before .before .before
+
+fits : (c : tie.After-written-size Inv-loop μ-loop) → here (judged-in (c .before)) .loop .written + c .written-size .result ≤ length (here (judged-in (c .before)) .loop .out)
+fits c =
+    let k = turn-at (judged-in (c .before)) in
+    let is = c .before .before .number .given .1 in
+    writing-fits house-small (turn-here k is) (turn-good k is) (c .written-size .ensures) (start (here (judged-in (c .before))) .pre .1)
 
 count-in-requires : tie.Need-count-in-requires Inv-loop μ-loop
 count-in-requires c κs = search needs
 
 loop-holds : tie.Need-loop-holds Inv-loop μ-loop
-loop-holds c = let st = c .before .before .before .before in (length (st .args .notes .now), writing-first house house-small _ _ (st .pre .0) _)
+loop-holds c = loop-first (c .before .before .before .before .pre .0) writing-first
 
 sub-judge : tie.Need-sub-judge Inv-loop μ-loop
 sub-judge c = search needs
@@ -38,73 +65,25 @@ enum-told : tie.Need-enum-told Inv-loop μ-loop
 enum-told c = search needs
 
 same-length : tie.Need-same-length Inv-loop μ-loop
-same-length c =
-    let j = c .before .before in
-    let l = j .before .before .before in
-    let s = l .before in
-    let a = s .before .before .before .before .args in
-    let v = a .values .now in
-    let n = a .notes .now in
-    let w = l .loop .inv .1 in
-    let e = counted _ v _ _ _ _ _ (j .judge .ensures) (s .count-in .ensures) in
-    w .written .size
+same-length c = here (c .before .before) .loop .inv .holds .written .size
 
 returns : tie.Need-returns Inv-loop μ-loop
-returns c =
-    let j = c .before .before in
-    let l = j .before .before .before in
-    let s = l .before in
-    let a = s .before .before .before .before .args in
-    let v = a .values .now in
-    let n = a .notes .now in
-    let w = l .loop .inv .1 in
-    let e = counted _ v _ _ _ _ _ (j .judge .ensures) (s .count-in .ensures) in
-    writing-refused house house-small v n (a .out .now) _ _ _ _ _ w _ e _ _ (c .enum-told .given .1)
+returns c = writing-done (turn-refused (turn-at (c .before .before)) (c .enum-told .given .1))
 
 enum-told-2 : tie.Need-enum-told-2 Inv-loop μ-loop
 enum-told-2 c = search needs
 
 same-length-2 : tie.Need-same-length-2 Inv-loop μ-loop
-same-length-2 c =
-    let j = c .before .before in
-    let l = j .before .before .before in
-    let s = l .before in
-    let a = s .before .before .before .before .args in
-    let v = a .values .now in
-    let n = a .notes .now in
-    let w = l .loop .inv .1 in
-    let e = counted _ v _ _ _ _ _ (j .judge .ensures) (s .count-in .ensures) in
-    w .written .size
+same-length-2 c = here (c .before .before) .loop .inv .holds .written .size
 
 returns-2 : tie.Need-returns-2 Inv-loop μ-loop
-returns-2 c =
-    let j = c .before .before in
-    let l = j .before .before .before in
-    let s = l .before in
-    let a = s .before .before .before .before .args in
-    let v = a .values .now in
-    let n = a .notes .now in
-    let w = l .loop .inv .1 in
-    let e = counted _ v _ _ _ _ _ (j .judge .ensures) (s .count-in .ensures) in
-    writing-end house house-small v n (a .out .now) _ _ _ _ _ w _ e _ (c .enum-told2 .given .1)
+returns-2 c = writing-done (turn-end (turn-at (c .before .before)) (c .enum-told2 .given .1))
 
 enum-known-number : tie.Need-enum-known-number Inv-loop μ-loop
 enum-known-number c = search needs
 
 add-end : tie.Need-add-end Inv-loop μ-loop
-add-end c =
-    let kt = c in
-    let j = kt .before .before .before in
-    let l = j .before .before .before in
-    let s = l .before in
-    let st = s .before .before .before .before in
-    let a = st .args in
-    let v = a .values .now in
-    let n = a .notes .now in
-    let w = l .loop .inv .1 in
-    let e = counted _ v _ _ _ _ _ (j .judge .ensures) (s .count-in .ensures) in
-    let is = kt .before .number .given .1 in
-    omega (arith, good-inside house house-small v n _ _ _ (w .going) _ e _ _ _ is)
+add-end c = omega (arith, turn-good (turn-at (judged-in c)) (c .before .number .given .1) .inside)
 
 written-size-requires : tie.Need-written-size-requires Inv-loop μ-loop
 written-size-requires c κs = search needs
@@ -116,52 +95,13 @@ part-put-field-start : tie.Need-part-put-field-start Inv-loop μ-loop
 part-put-field-start c = search needs
 
 part-put-field-end : tie.Need-part-put-field-end Inv-loop μ-loop
-part-put-field-end c =
-    let ws = c in
-    let kt = ws .before in
-    let j = kt .before .before .before in
-    let l = j .before .before .before in
-    let s = l .before in
-    let st = s .before .before .before .before in
-    let a = st .args in
-    let v = a .values .now in
-    let n = a .notes .now in
-    let w = l .loop .inv .1 in
-    let e = counted _ v _ _ _ _ _ (j .judge .ensures) (s .count-in .ensures) in
-    let is = kt .before .number .given .1 in
-    good-inside house house-small v n _ _ _ (w .going) _ e _ _ _ is
+part-put-field-end c = turn-good (turn-at (judged-in (c .before))) (c .before .before .number .given .1) .inside
 
 sub-put-field-2 : tie.Need-sub-put-field-2 Inv-loop μ-loop
-sub-put-field-2 c =
-    let ws = c .before in
-    let kt = ws .before in
-    let j = kt .before .before .before in
-    let l = j .before .before .before in
-    let s = l .before in
-    let st = s .before .before .before .before in
-    let a = st .args in
-    let v = a .values .now in
-    let n = a .notes .now in
-    let w = l .loop .inv .1 in
-    let e = counted _ v _ _ _ _ _ (j .judge .ensures) (s .count-in .ensures) in
-    let is = kt .before .number .given .1 in
-    omega (arith, writing-fits house house-small v n (a .out .now) _ _ _ _ _ w _ e _ _ _ is (st .pre .1) _ (ws .written-size .ensures))
+sub-put-field-2 c = omega (arith, fits (c .before))
 
 part-put-field-start-2 : tie.Need-part-put-field-start-2 Inv-loop μ-loop
-part-put-field-start-2 c =
-    let ws = c .before in
-    let kt = ws .before in
-    let j = kt .before .before .before in
-    let l = j .before .before .before in
-    let s = l .before in
-    let st = s .before .before .before .before in
-    let a = st .args in
-    let v = a .values .now in
-    let n = a .notes .now in
-    let w = l .loop .inv .1 in
-    let e = counted _ v _ _ _ _ _ (j .judge .ensures) (s .count-in .ensures) in
-    let is = kt .before .number .given .1 in
-    omega (arith, writing-fits house house-small v n (a .out .now) _ _ _ _ _ w _ e _ _ _ is (st .pre .1) _ (ws .written-size .ensures))
+part-put-field-start-2 c = omega (arith, fits (c .before))
 
 part-put-field-end-2 : tie.Need-part-put-field-end-2 Inv-loop μ-loop
 part-put-field-end-2 c = search needs
@@ -170,74 +110,30 @@ put-field-requires : tie.Need-put-field-requires Inv-loop μ-loop
 put-field-requires c κs = search needs
 
 add-written : tie.Need-add-written Inv-loop μ-loop
-add-written c =
-    let ws = c .before .before .before .before .before in
-    let kt = ws .before in
-    let j = kt .before .before .before in
-    let l = j .before .before .before in
-    let s = l .before in
-    let st = s .before .before .before .before in
-    let a = st .args in
-    let v = a .values .now in
-    let n = a .notes .now in
-    let w = l .loop .inv .1 in
-    let e = counted _ v _ _ _ _ _ (j .judge .ensures) (s .count-in .ensures) in
-    let is = kt .before .number .given .1 in
-    omega (arith, writing-fits house house-small v n (a .out .now) _ _ _ _ _ w _ e _ _ _ is (st .pre .1) _ (ws .written-size .ensures))
+add-written c = omega (arith, fits (c .before .before .before .before .before))
 
 add-at : tie.Need-add-at Inv-loop μ-loop
 add-at c =
-    let ws = c .before .before .before .before .before in
-    let kt = ws .before in
-    let j = kt .before .before .before in
-    let l = j .before .before .before in
-    let s = l .before in
-    let st = s .before .before .before .before in
-    let a = st .args in
-    let v = a .values .now in
-    let n = a .notes .now in
-    let w = l .loop .inv .1 in
-    let e = counted _ v _ _ _ _ _ (j .judge .ensures) (s .count-in .ensures) in
-    let is = kt .before .number .given .1 in
-    omega (arith, writing-room house house-small v n (a .out .now) _ _ _ _ _ w _ e _ _ _ is)
+    let d = c .before .before .before .before .before .before in
+    omega (arith, turn-room (turn-at (judged-in d)) (d .before .number .given .1), start (here (judged-in d)) .good .1 .0)
 
 loop-less : tie.Need-loop-less Inv-loop μ-loop
 loop-less c =
-    let ws = c .before .before .before .before .before in
-    let kt = ws .before in
-    let j = kt .before .before .before in
-    let l = j .before .before .before in
-    let s = l .before in
-    let st = s .before .before .before .before in
-    let a = st .args in
-    let v = a .values .now in
-    let n = a .notes .now in
-    let w = l .loop .inv .1 in
-    let e = counted _ v _ _ _ _ _ (j .judge .ensures) (s .count-in .ensures) in
-    let is = kt .before .number .given .1 in
-    omega (arith, writing-room house house-small v n (a .out .now) _ _ _ _ _ w _ e _ _ _ is)
+    let d = c .before .before .before .before .before .before in
+    omega (arith, turn-room (turn-at (judged-in d)) (d .before .number .given .1))
 
 loop-again : tie.Need-loop-again Inv-loop μ-loop
 loop-again c =
-    let ws = c .before .before .before .before .before in
-    let kt = ws .before in
-    let j = kt .before .before .before in
-    let l = j .before .before .before in
-    let s = l .before in
-    let st = s .before .before .before .before in
-    let a = st .args in
-    let v = a .values .now in
-    let n = a .notes .now in
-    let w = l .loop .inv .1 in
-    let e = counted _ v _ _ _ _ _ (j .judge .ensures) (s .count-in .ensures) in
-    let is = kt .before .number .given .1 in
-    (l .loop .inv .0 - 1, writing-next house house-small v n (a .out .now) _ _ _ _ _ w _ e _ _ _ is (st .pre .1) _ (ws .written-size .ensures) _ (c .before .before .put-field .ensures))
+    let s = c .before .before .before .before .before in
+    let k = turn-at (judged-in (s .before)) in
+    let is = s .before .before .number .given .1 in
+    turn-next k is (writing-more house-small (turn-here k is) (turn-good k is) (s .written-size .ensures) (start (here (judged-in (s .before))) .pre .1) (c .before .before .put-field .ensures))
 
 same-length-3 : tie.Need-same-length-3 Inv-loop μ-loop
-same-length-3 c = c .before .loop .inv .1 .written .size
+same-length-3 c = c .before .loop .inv .holds .written .size
 
 returns-3 : tie.Need-returns-3 Inv-loop μ-loop
-returns-3 c = absurd (omega (arith, c .loop-test .left, c .before .loop .inv .1 .going .inside))
+returns-3 c = absurd (omega (arith, c .loop-test .left, c .before .loop .inv .going .inside))
 
 pub write-body-spec : {M : Type 1} → statement M
 write-body-spec =

@@ -1,6 +1,7 @@
 -- One law for each end, in Answering.
-use mathlib.Core.Path.{_≡_}
-use Prim.Native.Nat.{_+_, _*_, _-_}
+use mathlib.Core.Path.{_≡_, _∙_}
+use Prim.Native.Nat.{ℕ, _+_, _*_, _-_, _≤_}
+use mathlib.Core.List.{List}
 use lib.ListN.{length}
 use Rattle.field_table.specs.House.{house}
 use Rattle.message_walk.specs.declared.Rule.the-variants.{Clean}
@@ -13,111 +14,59 @@ use native.Mathlib.Omega.{arith}
 use Rattle.message_write.proofs.write_ended.Statement.{statement}
 use Rattle.message_write.proofs.write_ended.Tie as tie
 
+abbrev start : tie.After-count-in → tie.Start
+start c = c .before .before .before .before
+
+three-at : (c : tie.After-count-in) → c .count-in .result ≤ 3
+three-at c = omega (arith, c .count-in .ensures, count-three _ (start c .pre .0))
+
+-- the length that was measured is the message's
+abbrev message : tie.After-count-in → List ℕ
+message c =
+    messageOf house (start c .args .values .now) (mtiIn (start c .args .notes .now)) (countIn (start c .args .notes .now))
+    (entriesIn (testOf house Clean) (start c .args .values .now) (start c .args .notes .now))
+
+sized-at : (c : tie.After-measure) → length (message (c .before)) ≡ 4 + 8 * (c .before .count-in .result) + c .measure .result
+sized-at c =
+    let good = start (c .before) .pre .0 in
+    message-long house _ _ _ _ (mti-four _ good) (count-three _ good) ∙ omega (arith, c .before .count-in .ensures, c .measure .ensures .0)
+
 count-in-requires : tie.Need-count-in-requires
 count-in-requires c κs = search needs
 
 mul-length : tie.Need-mul-length
-mul-length c =
-    let st = c .before .before .before .before in
-    let a = st .args in
-    let v = a .values .now in
-    let n = a .notes .now in
-    let m = countIn n in
-    let es = entriesIn (testOf house Clean) v n in
-    let three = count-three n (st .pre .0) in
-    let long = message-long house v (mtiIn n) m es (mti-four n (st .pre .0)) three in
-    omega (arith, c .count-in .ensures)
+mul-length c = omega (arith, three-at c)
 
 add-length : tie.Need-add-length
-add-length c =
-    let st = c .before .before .before .before in
-    let a = st .args in
-    let v = a .values .now in
-    let n = a .notes .now in
-    let m = countIn n in
-    let es = entriesIn (testOf house Clean) v n in
-    let three = count-three n (st .pre .0) in
-    let long = message-long house v (mtiIn n) m es (mti-four n (st .pre .0)) three in
-    omega (arith, c .count-in .ensures)
+add-length c = omega (arith, three-at c)
 
 measure-requires : tie.Need-measure-requires
-measure-requires c κs = head-whole _ (c .before .before .before .before .pre .0)
+measure-requires c κs = head-whole _ (start c .pre .0)
 
 add-length-2 : tie.Need-add-length-2
-add-length-2 c =
-    let st = c .before .before .before .before .before in
-    let a = st .args in
-    let v = a .values .now in
-    let n = a .notes .now in
-    let m = countIn n in
-    let es = entriesIn (testOf house Clean) v n in
-    let three = count-three n (st .pre .0) in
-    let long = message-long house v (mtiIn n) m es (mti-four n (st .pre .0)) three in
-    omega (arith, c .before .count-in .ensures, c .measure .ensures .1)
+add-length-2 c = omega (arith, three-at (c .before), c .measure .ensures .1)
 
 returns : tie.Need-returns
-returns c =
-    let st = c .before .before .before .before .before .before in
-    let a = st .args in
-    let v = a .values .now in
-    let n = a .notes .now in
-    let m = countIn n in
-    let es = entriesIn (testOf house Clean) v n in
-    let three = count-three n (st .pre .0) in
-    let long = message-long house v (mtiIn n) m es (mti-four n (st .pre .0)) three in
-    let me = c .before in
-    let ci = c .before .before in
-    let sized : length (messageOf house v (mtiIn n) m es) ≡ 4 + 8 * (ci .count-in .result) + me .measure .result = omega (arith, long, ci .count-in .ensures, me .measure .ensures .0) in
-    (ended-differs _ _ _ _ _ sized (c .if1 .taken), differs-left 0 _ _ _ _ sized (c .if1 .taken))
+returns c = (ended-differs _ _ _ _ _ (sized-at (c .before)) (c .if1 .taken), differs-left 0 _ _ _ _ (sized-at (c .before)) (c .if1 .taken))
 
 returns-2 : tie.Need-returns-2
 returns-2 c =
-    let st = c .before .before .before .before .before .before .before in
-    let a = st .args in
-    let v = a .values .now in
-    let n = a .notes .now in
-    let m = countIn n in
-    let es = entriesIn (testOf house Clean) v n in
-    let three = count-three n (st .pre .0) in
-    let long = message-long house v (mtiIn n) m es (mti-four n (st .pre .0)) three in
-    let me = c .before .before in
-    let ci = c .before .before .before in
-    let sized : length (messageOf house v (mtiIn n) m es) ≡ 4 + 8 * (ci .count-in .result) + me .measure .result = omega (arith, long, ci .count-in .ensures, me .measure .ensures .0) in
+    let sized = sized-at (c .before .before) in
     (ended-short _ _ _ _ _ sized (c .before .if1 .left) (c .if2 .taken), short-left 0 _ _ _ _ sized (c .before .if1 .left) (c .if2 .taken))
 
 write-message-requires : tie.Need-write-message-requires
 write-message-requires c κs =
-    let st = c .before .before .before .before .before .before .before .before in
-    let a = st .args in
-    let v = a .values .now in
-    let n = a .notes .now in
-    let m = countIn n in
-    let es = entriesIn (testOf house Clean) v n in
-    let three = count-three n (st .pre .0) in
-    let long = message-long house v (mtiIn n) m es (mti-four n (st .pre .0)) three in
-    let me = c .before .before .before in
-    let ci = c .before .before .before .before in
-    let sized : length (messageOf house v (mtiIn n) m es) ≡ 4 + 8 * (ci .count-in .result) + me .measure .result = omega (arith, long, ci .count-in .ensures, me .measure .ensures .0) in
-    (st .pre .0, (st .pre .1, omega (arith, sized, c .before .if2 .left)))
+    let m = c .before .before .before in
+    (start (m .before) .pre .0, (start (m .before) .pre .1, omega (arith, sized-at m, c .before .if2 .left)))
 
 same-length : tie.Need-same-length
 same-length c = search needs
 
 returns-3 : tie.Need-returns-3
 returns-3 c =
-    let st = c .before .before .before .before .before .before .before .before .before .before .before in
-    let a = st .args in
-    let v = a .values .now in
-    let n = a .notes .now in
-    let m = countIn n in
-    let es = entriesIn (testOf house Clean) v n in
-    let three = count-three n (st .pre .0) in
-    let long = message-long house v (mtiIn n) m es (mti-four n (st .pre .0)) three in
-    let me = c .before .before .before .before .before .before in
-    let ci = c .before .before .before .before .before .before .before in
-    let sized : length (messageOf house v (mtiIn n) m es) ≡ 4 + 8 * (ci .count-in .result) + me .measure .result = omega (arith, long, ci .count-in .ensures, me .measure .ensures .0) in
-    let e2 = c .before .before .before .before in
-    (ended-written _ _ _ _ _ sized (e2 .before .if1 .left) (e2 .if2 .left), written-laid 0 _ _ _ _ sized (e2 .before .if1 .left) _ (e2 .if2 .left) (c .before .before .write-message .ensures))
+    let fits = c .before .before .before .before in
+    let sized = sized-at (fits .before .before) in
+    (ended-written _ _ _ _ _ sized (fits .before .if1 .left) (fits .if2 .left), written-laid 0 _ _ _ _ sized (fits .before .if1 .left) _ (fits .if2 .left) (c .before .before .write-message .ensures))
 
 pub write-ended-spec : {M : Type 1} → statement M
 write-ended-spec =

@@ -2,7 +2,7 @@
 -- the output stays as long as it was.
 use mathlib.Core.Path.{_≡_, _∙_}
 use Prim.Native.Nat.{ℕ, _+_, _*_, _≤_}
-use lib.ListN.{length, length-drop, length-take}
+use lib.ListN.{length}
 use Rattle.field_table.specs.House.{house}
 use Rattle.message_walk.specs.declared.Rule.the-variants.{Clean}
 use Rattle.message_walk.specs.Walk.{entriesIn}
