@@ -17,10 +17,6 @@ use Rattle.refusal.specs.Refusals.{plain}
 use Rattle.message_notes.specs.Notes.{headKind, headSize}
 use Rattle.message_walk.specs.Walk.{Test, headNumber, countIn, mtiIn, bad, ends, walked}
 
-pub bad-head : (p : Test) (v n : List ℕ) → (headNumber n ≡ 0 → ⊥) → walked p v n ≡ bad (plain (headNumber n))
-unfolding walked
-bad-head p v n z = rw (ne-eqb (headNumber n) 0 z)
-
 pub ended-head : (p : Test) (v n : List ℕ) (at u : ℕ) → walked p v n ≡ ends at u → headNumber n ≡ 0
 unfolding walked
 ended-head p v n at u e = by-eq (headNumber n) 0 (λ z. z) (λ z. absurd (clash (rw (ne-eqb (headNumber n) 0 z) at e)))

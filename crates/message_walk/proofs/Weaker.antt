@@ -1,8 +1,7 @@
--- Where a walk comes to the end note, a walk by another test that finds nothing in what the first passes ends alike and passes the same
--- entries. Assumes nothing.
+-- A walk by a test that finds no more ends alike, and passes the same entries, where the first comes to the end note. Assumes nothing.
 use Prim.Native.Nat.{ℕ, zero, suc, _+_}
 use mathlib.Core.Path.{_≡_, refl, sym, ap, _∙_}
-use mathlib.Core.List.{List, [], _∷_}
+use mathlib.Core.List.{List, _∷_}
 use native.Mathlib.Omega.{arith}
 use lib.ListN.{length, drop}
 use borrow.Author.Tests.{eq-eqb}
@@ -12,15 +11,9 @@ use Rattle.message_notes.specs.Notes.{headSize, fieldNoteSize}
 use Rattle.message_walk.specs.declared.Judged.the-variants.{Passed}
 use Rattle.message_walk.specs.Walk.{Test, headNumber, countIn, contentOf, judged, passed, Ending, bad, ends, ending, walked, entriesIn}
 use Rattle.message_walk.proofs.Steps.{by-judged, passes, judged-note, judged-end, ends-note, passing, ending-bad, ending-end, ending-more, passed-end, passed-more}
-use Rattle.message_walk.proofs.Folds.{AllGood, all-good}
 use Rattle.message_walk.proofs.Heads.{ended-head}
 
--- the test q finds nothing in the contents of the entries es
-unfoldable pub Clear : Test → List ℕ → List Entry → Type 0
-Clear q v [] = Unit {0}
-Clear q v (e ∷ es) = (q (e .number) (contentOf v (e .offset) (e .size)) ≡ 0) × Clear q v es
-
-module _ (p q : Test) (v : List ℕ) (m : ℕ) where
+module _ (p q : Test) (weaker : (f : ℕ) (c : List ℕ) → p f c ≡ 0 → q f c ≡ 0) (v : List ℕ) (m : ℕ) where
   pub record Alike (k last at : ℕ) (s : List ℕ) (x u : ℕ) : Type 0 where
     pub end : ending q v m k last at s ≡ ends x u
     pub same : passed q v m k last s ≡ passed p v m k last s
@@ -28,10 +21,10 @@ module _ (p q : Test) (v : List ℕ) (m : ℕ) where
   never : (e : Ending) (r : Refusal) (x u : ℕ) → e ≡ bad r → e ≡ ends x u → ⊥
   never e r x u a b = let z : _≡_ {A = ℕ} 0 1 = cc in omega arith
 
-  pub alike : (k last at : ℕ) (s : List ℕ) (x u : ℕ) → ending p v m k last at s ≡ ends x u → Clear q v (passed p v m k last s) → Alike k last at s x u
-  unfolding ending Clear
-  alike zero last at s x u e clear = absurd (never _ _ x u refl e)
-  alike (suc k) last at s x u e clear =
+  pub alike : (k last at : ℕ) (s : List ℕ) (x u : ℕ) → ending p v m k last at s ≡ ends x u → Alike k last at s x u
+  unfolding ending
+  alike zero last at s x u e = absurd (never _ _ x u refl e)
+  alike (suc k) last at s x u e =
       by-judged (judged p v m last s)
       (λ n f j. absurd (never _ _ x u (ending-bad p v m k last at s n f j) e))
       (λ w j.
@@ -42,17 +35,16 @@ module _ (p q : Test) (v : List ℕ) (m : ℕ) where
       })
       (λ f a n j.
       let g = passing p v m last s f a n j in
-      let c : Clear q v (entry f a n ∷ passed p v m k f (drop fieldNoteSize s)) = rw (passed-more p v m k last s f a n j) at clear in
       let h : judged q v m last s ≡ Passed f a n =
       judged-note q v m last s f a n (g .note)
-      ∙ passes q v m last f a n (record { allowed = g .good .allowed; inside = g .good .inside; ruled = c .0 }) in
-      let r = alike k f (at + fieldNoteSize) (drop fieldNoteSize s) x u (sym (ending-more p v m k last at s f a n j) ∙ e) (c .1) in
+      ∙ passes q v m last f a n (record { allowed = g .good .allowed; inside = g .good .inside; ruled = weaker f (contentOf v a n) (g .good .ruled) }) in
+      let r = alike k f (at + fieldNoteSize) (drop fieldNoteSize s) x u (sym (ending-more p v m k last at s f a n j) ∙ e) in
       record {
         end = ending-more q v m k last at s f a n h ∙ r .end;
         same = passed-more q v m k last s f a n h ∙ ap (λ (es : List Entry). entry f a n ∷ es) (r .same) ∙ sym (passed-more p v m k last s f a n j);
       })
 
-module _ (p q : Test) (v n : List ℕ) (x u : ℕ) (e : walked p v n ≡ ends x u) where
+module _ (p q : Test) (weaker : (f : ℕ) (c : List ℕ) → p f c ≡ 0 → q f c ≡ 0) (v n : List ℕ) (x u : ℕ) (e : walked p v n ≡ ends x u) where
   good : headNumber n ≡ 0
   good = ended-head p v n x u e
 
@@ -60,32 +52,10 @@ module _ (p q : Test) (v n : List ℕ) (x u : ℕ) (e : walked p v n ≡ ends x 
   unfolding walked
   rest = rw (eq-eqb (headNumber n) 0 good) at e
 
-  module _ (clear : Clear q v (entriesIn p v n)) where
-    both-walks : Alike p q v (countIn n) (length n) 0 headSize (drop headSize n) x u
-    unfolding entriesIn
-    both-walks = alike p q v (countIn n) (length n) 0 headSize (drop headSize n) x u rest clear
-
-    pub clear-walked : walked q v n ≡ ends x u
-    unfolding walked
-    clear-walked = rw (eq-eqb (headNumber n) 0 good) (both-walks .end)
-
-    pub clear-entries : entriesIn q v n ≡ entriesIn p v n
-    unfolding entriesIn
-    clear-entries = both-walks .same
-
--- a test that finds no more than p finds nothing in what p passes
-module _ (p q : Test) (weaker : (f : ℕ) (c : List ℕ) → p f c ≡ 0 → q f c ≡ 0) (v n : List ℕ) (x u : ℕ) (e : walked p v n ≡ ends x u) where
-  clear-good : (es : List Entry) → AllGood p v (countIn n) es → Clear q v es
-  unfolding Clear AllGood
-  clear-good [] a = tt
-  clear-good (d ∷ es) a = (weaker (d .number) (contentOf v (d .offset) (d .size)) (a .0 .1 .ruled), clear-good es (a .1))
-
-  weaker-clear : Clear q v (entriesIn p v n)
-  unfolding entriesIn
-  weaker-clear = clear-good (passed p v (countIn n) (length n) 0 (drop headSize n)) (all-good p v (countIn n) (length n) 0 (drop headSize n))
-
   pub weaker-walked : walked q v n ≡ ends x u
-  weaker-walked = clear-walked p q v n x u e weaker-clear
+  unfolding walked
+  weaker-walked = rw (eq-eqb (headNumber n) 0 good) (alike p q weaker v (countIn n) (length n) 0 headSize (drop headSize n) x u rest .end)
 
   pub weaker-entries : entriesIn q v n ≡ entriesIn p v n
-  weaker-entries = clear-entries p q v n x u e weaker-clear
+  unfolding entriesIn
+  weaker-entries = alike p q weaker v (countIn n) (length n) 0 headSize (drop headSize n) x u rest .same

@@ -8,11 +8,9 @@ use native.Mathlib.Omega.{arith}
 use lib.Dec.{eqb, ltb}
 use lib.ListN.{length, drop, replicate, length-drop, length-append}
 use lib.Seq.{length-take-le}
-use borrow.Author.Tests.{le-leb, eq-eqb, ne-eqb, eqb-true, lt-ltb, ltb-true}
+use borrow.Author.Tests.{le-leb, lt-leb, eq-eqb, ne-eqb, eqb-true, lt-ltb, ltb-true}
 use Rattle.octets.specs.Lists.{either, all}
 use Rattle.octets.proofs.Cases.{false-true, by-bool, by-eq, by-le, both-left, both-right}
-use Rattle.refusal.specs.Numbers.{lengthNotAllowed}
-use Rattle.refusal.specs.Refusals.{told}
 use Rattle.refusal.specs.declared.Refusal.{Refusal}
 use Rattle.refusal.specs.declared.Output.{Output}
 use Rattle.refusal.specs.declared.Output.the-variants.{Written, Refused}
@@ -20,7 +18,7 @@ use Rattle.field_table.specs.Table.{Table}
 use Rattle.field_table.specs.House.{house}
 use Rattle.field_table.proofs.Rows.{Small, house-small}
 use Rattle.field_write.specs.Fields.{isAllowedLength, exactFault, cleanFault, isShort, missing, padByte, padsLeft, padded, cleaned}
-use Rattle.field_write.proofs.Allowed.{allowed-most, exact-not-short, not-short-exact}
+use Rattle.field_write.proofs.Allowed.{allowed-most, is-allowed, not-short-long, exact-not-short}
 use Rattle.field_write.proofs.Cleaned.{not-short-whole, cleaned-exact}
 use Rattle.bitmap.specs.Bits.{bitOf}
 use Rattle.bitmap.specs.Bitmaps.{isField, isIn, noFields, setOf, setFrom}
@@ -28,17 +26,16 @@ use Rattle.bitmap.proofs.Bits.{bit-zero, bit-past}
 use Rattle.bitmap.proofs.Maps.{low-no-field, high-no-field}
 use Rattle.bitmap.proofs.Sets.{none-is, from-is, bit-set, set-is}
 use Rattle.message_language.specs.Language.{Entry, entry}
-use Rattle.message_walk.specs.Walk.{Test, headNumber, countIn, mtiIn, contentOf, bad, walked, entriesIn}
-use Rattle.message_walk.proofs.Agreeing.{same-walked, same-entries}
-use Rattle.message_walk.proofs.Heads.{ended-head, bad-head}
+use Rattle.message_notes.specs.Notes.{headSize}
+use Rattle.message_walk.specs.Walk.{Test, any, countIn, mtiIn, contentOf, walked, entriesIn}
+use Rattle.message_walk.proofs.Agreeing.{Agree, same-walked, same-entries}
 use Rattle.message_walk.proofs.Steps.{Good}
-use Rattle.message_walk.proofs.Weaker.{Clear, clear-walked, clear-entries}
-use Rattle.message_walk.proofs.Written.{Walkable, none, more}
-use Rattle.message_write.specs.Written.{messageOf, shortIn, bytesBy, answerOn, outputOn, answerBy, outputBy, paddedOn, paddedBy}
+use Rattle.message_walk.proofs.Written.{Walkable, walkable, none, more}
+use Rattle.message_write.specs.Written.{messageOf, shortIn, bytesBy, answerBy, outputBy, paddedOn, paddedBy}
 use Rattle.message_write.proofs.Answering.{padded-refused}
-use Rattle.round_trip.specs.RoundTrip.{Content, content, contentsIn, contentsBy, cleanedIn, readingOf, Short, AgreesWithExact, PadsShortAlone}
+use Rattle.round_trip.specs.RoundTrip.{Content, content, contentsIn, named, cleanedIn, readingOf, Short, AgreesWithExact, PadsShortAlone}
 use Rattle.round_trip.proofs.Made.{is-field, no-member}
-use Rattle.round_trip.proofs.Rereading.{at, said, ended, walk, written, begins, begins-maps, reads-as, exact-written, clean-written}
+use Rattle.round_trip.proofs.Rereading.{walk, named-is, written, begins, begins-maps, reads-as, exact-written, clean-written}
 use Rattle.round_trip.proofs.RoundTrip.{answers, given-back, bytes-back}
 
 -- a content is short where its field is fixed and it is under the table's length
@@ -55,25 +52,17 @@ module _ (t : Table) (f n : ℕ) where
   unfolding isShort
   is-short z l = rw (eq-eqb (t .width f) 0 z, lt-ltb n (t .most f) l)
 
--- Where q finds nothing in what a writer by the test p takes, a writer by q does the same.
-module _ (p q : Test) (t : Table) (v n out : List ℕ) (u : ℕ) (h : answerBy p t v n out ≡ Written u) (clear : Clear q v (entriesIn p v n)) where
-  walks : walked q v n ≡ walked p v n
-  walks = clear-walked p q v n (at p t v n out u h) (said p t v n out u h) (ended p t v n out u h) clear ∙ sym (ended p t v n out u h)
-
-  pub entries-alike : entriesIn q v n ≡ entriesIn p v n
-  entries-alike = clear-entries p q v n (at p t v n out u h) (said p t v n out u h) (ended p t v n out u h) clear
-
-  bytes : bytesBy q t v n ≡ bytesBy p t v n
-  unfolding bytesBy
-  bytes = ap (messageOf t v (mtiIn n) (countIn n)) entries-alike
-
-  pub answers-alike : answerBy q t v n out ≡ Written u
-  unfolding answerBy
-  answers-alike = rw (walks, bytes) h
-
-  pub writes-alike : outputBy q t v n out ≡ outputBy p t v n out
-  unfolding outputBy
-  writes-alike = rw (walks, bytes)
+-- a content that is not short is for both writers' tests the same
+long-alike : (t : Table) (f : ℕ) (c : List ℕ) → isShort t f (length c) ≡ false → cleanFault t f c ≡ exactFault t f c
+unfolding exactFault cleanFault
+long-alike t f c h =
+    by-le (length c) (t .most f)
+    (λ l.
+    let a : isAllowedLength t f (length c) ≡ true = is-allowed t f (length c) (λ z. let g = not-short-long t f (length c) h z in omega arith) l in
+    rw (a, le-leb (length c) (t .most f) l))
+    (λ g. by-bool (isAllowedLength t f (length c))
+    (λ a. let l = allowed-most t f (length c) a in absurd (omega arith))
+    (λ a. rw (a, lt-leb (length c) (t .most f) g)))
 
 -- The short fields among entries that pass: in the list of their numbers exactly the numbers that are Short.
 module _ (p : Test) (t : Table) (v : List ℕ) (m : ℕ) where
@@ -142,17 +131,24 @@ module _ (p : Test) (t : Table) (v : List ℕ) (m : ℕ) where
       let r = short-listed w f before c after i y in
       by-bool (isShort t g n) (λ s. rw (s, r) (either-true (eqb g f))) (λ s. rw s r)
 
-  -- where none is short, the exact writer takes all that the cleaning writer takes
-  none-short : {last : ℕ} {es : List Entry} → Walkable p v m last es → ((f : ℕ) (c : List ℕ) → p f c ≡ 0 → cleanFault t f c ≡ 0)
-      → ((f : ℕ) → Short t f (contentsIn v es) → ⊥) → Clear (exactFault t) v es
-  unfolding Clear
-  none-short none weak no-short = tt
-  none-short {last} (more {f = f} {a = a} {n = n} {es = es} g w) weak no-short =
+  -- where none is short, none is listed, and the tests of the two writers agree
+  none-listed : {last : ℕ} {es : List Entry} → Walkable p v m last es → ((f : ℕ) → Short t f (contentsIn v es) → ⊥) → shortIn t es ≡ []
+  unfolding shortIn
+  none-listed none no-short = refl
+  none-listed {last} (more {f = f} {a = a} {n = n} {es = es} g w) no-short =
+      by-bool (isShort t f n)
+      (λ y. absurd (no-short f (here {last = last} f a n es g y)))
+      (λ s. rw s (none-listed w (λ h x. no-short h (later f h a n es x))))
+
+  tests-alike : {last : ℕ} {es : List Entry} → Walkable p v m last es → ((f : ℕ) → Short t f (contentsIn v es) → ⊥) → Agree (exactFault t) (cleanFault t) v es
+  unfolding Agree
+  tests-alike none no-short = tt
+  tests-alike {last} (more {f = f} {a = a} {n = n} {es = es} g w) no-short =
       by-bool (isShort t f n)
       (λ y. absurd (no-short f (here {last = last} f a n es g y)))
       (λ s. (
-        not-short-exact t f (contentOf v a n) (rw (sized {last = last} f a n g) s) (weak f (contentOf v a n) (g .ruled)),
-        none-short w weak (λ h x. no-short h (later f h a n es x)),
+        long-alike t f (contentOf v a n) (rw (sized {last = last} f a n g) s),
+        tests-alike w (λ h x. no-short h (later f h a n es x)),
       ))
 
 -- a set has the bits of its fields, and no others
@@ -174,32 +170,26 @@ no-fields : setOf [] ≡ noFields
 unfolding setFrom
 no-fields = sym (set-is [] refl)
 
--- The cleaning writer.
-module _ (t : Table) (v n out : List ℕ) (u : ℕ) (h : answerBy (cleanFault t) t v n out ≡ Written u) where
-  abbrev es : List Entry
-  es = entriesIn (cleanFault t) v n
+-- What was written by the test p, among the fields that the notes name.
+module _ (p : Test) (t : Table) (v n out : List ℕ) (u : ℕ) (h : answerBy p t v n out ≡ Written u) where
+  passes : Walkable p v (countIn n) 0 (entriesIn any v n)
+  passes = rw (named-is p t v n out u h) (walk p t v n out u h)
 
-  passes : Walkable (cleanFault t) v (countIn n) 0 es
-  passes = walk (cleanFault t) t v n out u h
-
-  padded-is : paddedBy (cleanFault t) t v n out ≡ setOf (shortIn t es)
+  padded-is : paddedBy p t v n out ≡ setOf (shortIn t (entriesIn any v n))
   unfolding paddedBy paddedOn
-  padded-is = rw (paddedBy, h)
+  padded-is = rw (paddedBy, h) (ap (λ (es : List Entry). setOf (shortIn t es)) (sym (named-is p t v n out u h)))
 
-  padded-bit : (f : ℕ) → bitOf (paddedBy (cleanFault t) t v n out) f ≡ isIn f (shortIn t es)
-  padded-bit f = ap (λ (s : List ℕ). bitOf s f) padded-is ∙ set-bit (shortIn t es) f (short-fields (cleanFault t) t v (countIn n) passes)
+  padded-bit : (f : ℕ) → bitOf (paddedBy p t v n out) f ≡ isIn f (shortIn t (entriesIn any v n))
+  padded-bit f = ap (λ (s : List ℕ). bitOf s f) padded-is ∙ set-bit (shortIn t (entriesIn any v n)) f (short-fields p t v (countIn n) passes)
 
-  pub padded-short : (f : ℕ) → bitOf (paddedBy (cleanFault t) t v n out) f ≡ true → Short t f (contentsBy (cleanFault t) v n)
-  padded-short f y = listed-short (cleanFault t) t v (countIn n) passes f (sym (padded-bit f) ∙ y)
+  is-listed : (f : ℕ) → Short t f (named v n) → isIn f (shortIn t (entriesIn any v n)) ≡ true
+  is-listed f x = short-listed p t v (countIn n) passes f (x .before) (x .bytes) (x .after) (x .is) (is-short t f (length (x .bytes)) (x .fixed) (x .short))
 
-  pub short-padded : (f : ℕ) → Short t f (contentsBy (cleanFault t) v n) → bitOf (paddedBy (cleanFault t) t v n out) f ≡ true
-  short-padded f x =
-      padded-bit f
-      ∙ short-listed (cleanFault t) t v (countIn n) passes f (x .before) (x .bytes) (x .after) (x .is) (is-short t f (length (x .bytes)) (x .fixed) (x .short))
+  pub padded-short : (f : ℕ) → bitOf (paddedBy p t v n out) f ≡ true → Short t f (named v n)
+  padded-short f y = listed-short p t v (countIn n) passes f (sym (padded-bit f) ∙ y)
 
-  pub exact-too : ((f : ℕ) → Short t f (contentsBy (cleanFault t) v n) → ⊥) → answerBy (exactFault t) t v n out ≡ Written u
-  exact-too no-short =
-      answers-alike (cleanFault t) (exactFault t) t v n out u h (none-short (cleanFault t) t v (countIn n) passes (λ f c z. z) no-short)
+  pub short-padded : (f : ℕ) → Short t f (named v n) → bitOf (paddedBy p t v n out) f ≡ true
+  short-padded f x = padded-bit f ∙ is-listed f x
 
 -- What the exact writer takes is nowhere short.
 exact-long : (t : Table) (v : List ℕ) (m : ℕ) {last : ℕ} {es : List Entry} → Walkable (exactFault t) v m last es → shortIn t es ≡ []
@@ -210,55 +200,49 @@ exact-long t v m {last} (more {f = f} {a = a} {n = n} g w) =
     ap (isShort t f) (sym (sized (exactFault t) t v m {last = last} f a n g)) ∙ exact-not-short t f (contentOf v a n) (g .ruled) in
     rw q (exact-long t v m w)
 
--- The two tests differ only where the exact writer's finds 12.
-tests-agree : (t : Table) (f : ℕ) (c : List ℕ) → (exactFault t f c ≡ lengthNotAllowed → ⊥) → cleanFault t f c ≡ exactFault t f c
-unfolding exactFault cleanFault
-tests-agree t f c h =
-    by-bool (isAllowedLength t f (length c))
-    (λ y. rw (y, le-leb (length c) (t .most f) (allowed-most t f (length c) y)))
-    (λ s. absurd (h (rw s)))
+written-not-short : (t : Table) (v n out : List ℕ) (u : ℕ) → answerBy (exactFault t) t v n out ≡ Written u → (f : ℕ) → Short t f (named v n) → ⊥
+written-not-short t v n out u h f x =
+    let e = exact-long t v (countIn n) (passes (exactFault t) t v n out u h) in
+    false-true (ap (isIn f) (sym e) ∙ is-listed (exactFault t) t v n out u h f x)
 
-module _ (t : Table) (v n out : List ℕ) (h : told (answerBy (exactFault t) t v n out) .refused .number ≡ lengthNotAllowed → ⊥) where
-  not-length : (r : Refusal) → walked (exactFault t) v n ≡ bad r → r .number ≡ lengthNotAllowed → ⊥
-  unfolding answerBy answerOn
-  not-length r e z = h (rw (answerBy, e) z)
+-- Where nothing is short.
+module _ (t : Table) (v n out : List ℕ) (no-short : (f : ℕ) → Short t f (named v n) → ⊥) where
+  all-named : Walkable any v (countIn n) 0 (entriesIn any v n)
+  unfolding entriesIn
+  all-named = walkable any v (countIn n) (length n) 0 (drop headSize n)
 
-  walks-same : walked (cleanFault t) v n ≡ walked (exactFault t) v n
-  walks-same = same-walked lengthNotAllowed (λ z. omega arith) (exactFault t) (cleanFault t) (tests-agree t) v n not-length
+  agree : Agree (exactFault t) (cleanFault t) v (entriesIn any v n)
+  agree = tests-alike any t v (countIn n) all-named no-short
 
-  bytes-same : headNumber n ≡ 0 → bytesBy (cleanFault t) t v n ≡ bytesBy (exactFault t) t v n
+  walks : walked (cleanFault t) v n ≡ walked (exactFault t) v n
+  walks = same-walked (exactFault t) (cleanFault t) v n agree
+
+  bytes : bytesBy (cleanFault t) t v n ≡ bytesBy (exactFault t) t v n
   unfolding bytesBy
-  bytes-same z =
-      ap (messageOf t v (mtiIn n) (countIn n)) (same-entries lengthNotAllowed (λ i. omega arith) (exactFault t) (cleanFault t) (tests-agree t) v n not-length z)
+  bytes = ap (messageOf t v (mtiIn n) (countIn n)) (same-entries (exactFault t) (cleanFault t) v n agree)
 
-  pub clean-answers : answerBy (cleanFault t) t v n out ≡ answerBy (exactFault t) t v n out
-  unfolding answerBy answerOn
-  clean-answers =
-      by-eq (headNumber n) 0
-      (λ z. rw (walks-same, bytes-same z))
-      (λ z. rw (answerBy, walks-same, bad-head (exactFault t) v n z))
+  pub answers-alike : answerBy (cleanFault t) t v n out ≡ answerBy (exactFault t) t v n out
+  unfolding answerBy
+  answers-alike = rw (walks, bytes)
 
-  pub clean-leaves : outputBy (cleanFault t) t v n out ≡ outputBy (exactFault t) t v n out
-  unfolding outputBy outputOn
-  clean-leaves =
-      by-eq (headNumber n) 0
-      (λ z. rw (walks-same, bytes-same z))
-      (λ z. rw (outputBy, walks-same, bad-head (exactFault t) v n z))
+  pub leaves-alike : outputBy (cleanFault t) t v n out ≡ outputBy (exactFault t) t v n out
+  unfolding outputBy
+  leaves-alike = rw (walks, bytes)
 
   pub none-padded : paddedBy (cleanFault t) t v n out ≡ noFields
   none-padded =
-      by-output (answerBy (exactFault t) t v n out)
-      (λ u e.
-      let i = clean-answers ∙ e in
-      let z = ended-head (exactFault t) v n (at (exactFault t) t v n out u e) (said (exactFault t) t v n out u e) (ended (exactFault t) t v n out u e) in
-      padded-is t v n out u i
-      ∙ ap (λ (es : List Entry). setOf (shortIn t es)) (same-entries lengthNotAllowed (λ i. omega arith) (exactFault t) (cleanFault t) (tests-agree t) v n not-length z)
-      ∙ ap setOf (exact-long t v (countIn n) (walk (exactFault t) t v n out u e))
-      ∙ no-fields)
-      (λ r e. sym (padded-refused (cleanFault t) t v n out r (clean-answers ∙ e)))
+      by-output (answerBy (cleanFault t) t v n out)
+      (λ u h. padded-is (cleanFault t) t v n out u h ∙ ap setOf (none-listed any t v (countIn n) all-named no-short) ∙ no-fields)
+      (λ r h. sym (padded-refused (cleanFault t) t v n out r h))
 
 pub agrees-with-exact : (t : Table) → AgreesWithExact t
-agrees-with-exact t = record { same-answer = clean-answers t; same-output = clean-leaves t; none-padded = none-padded t; exact-too = exact-too t }
+agrees-with-exact t =
+    record {
+      same-answer = answers-alike t;
+      same-output = leaves-alike t;
+      none-padded = none-padded t;
+      exact-not-short = written-not-short t;
+    }
 
 pub house-agrees : AgreesWithExact house
 house-agrees = agrees-with-exact house
@@ -273,20 +257,20 @@ in-one-piece t f c =
 pub pads-short-alone : (t : Table) → Small t → PadsShortAlone t
 pads-short-alone t small =
     record {
-      exact-writes = λ v n out u h. written (exactFault t) t v n out u h (contentsBy (exactFault t) v n) (exact-written t v n out u h);
-      clean-writes = λ v n out u h. written (cleanFault t) t v n out u h (cleanedIn t (contentsBy (cleanFault t) v n)) (clean-written t v n out u h);
+      exact-writes = λ v n out u h. written (exactFault t) t v n out u h (named v n) (exact-written t v n out u h);
+      clean-writes = λ v n out u h. written (cleanFault t) t v n out u h (cleanedIn t (named v n)) (clean-written t v n out u h);
       others-stay = not-short-whole t;
       nothing-dropped = in-one-piece t;
       cleaned-taken = cleaned-exact t;
-      padded-short = padded-short t;
-      short-padded = short-padded t;
+      padded-short = padded-short (cleanFault t) t;
+      short-padded = short-padded (cleanFault t) t;
       refused-none = λ v n out r h. sym (padded-refused (cleanFault t) t v n out r h);
       reads-back =
-          λ v n out s b u h. reads-as (cleanFault t) t v n out u h (cleanedIn t (contentsBy (cleanFault t) v n)) (clean-written t v n out u h) small s b;
+          λ v n out s b u h. reads-as (cleanFault t) t v n out u h (cleanedIn t (named v n)) (clean-written t v n out u h) small s b;
       exact-again =
           λ v n out s b d u h same room enough.
           let p = cleanFault t in
-          let cs = cleanedIn t (contentsBy p v n) in
+          let cs = cleanedIn t (named v n) in
           let w = clean-written t v n out u h in
           let r = readingOf t (mtiIn n) (countIn n) cs in
           let x = begins p t v n out u h cs w small s b same room in

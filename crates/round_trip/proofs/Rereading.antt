@@ -26,12 +26,13 @@ use Rattle.bitmap.specs.Bitmaps.{setOf, mapsFor}
 use Rattle.message_language.specs.Language.{Entry, entry, Message, Begins}
 use Rattle.message_notes.specs.Notes.{headSize, notesRoom}
 use Rattle.message_reader.proofs.Demand3.{reads}
-use Rattle.message_walk.specs.Walk.{Test, numberAllowed, countIn, mtiIn, contentOf, Ending, ends, walked, entriesIn}
+use Rattle.message_walk.specs.Walk.{Test, any, numberAllowed, countIn, mtiIn, contentOf, Ending, ends, walked, entriesIn}
 use Rattle.message_walk.proofs.Heads.{Head, ended-head, good-head}
+use Rattle.message_walk.proofs.Weaker.{weaker-entries}
 use Rattle.message_walk.proofs.Written.{Walkable, walkable, none as walked-none, more as walked-more}
 use Rattle.message_write.specs.Written.{numbersOf, bodyOf, bitmapsOf, messageOf, bytesBy, answered, laidOut, answerOn, outputOn, answerBy, outputBy}
 use Rattle.message_write.proofs.Answering.{written-ended}
-use Rattle.round_trip.specs.RoundTrip.{Content, content, contentsIn, contentsBy, numbersIn, spelt, messageWith, standing, readingOf, ReadsAs, WritesMessages, cleanedIn}
+use Rattle.round_trip.specs.RoundTrip.{Content, content, contentsIn, named, numbersIn, spelt, messageWith, standing, readingOf, ReadsAs, WritesMessages, cleanedIn}
 use Rattle.round_trip.proofs.Contents.{Taken, none, more, makes-message, maps-are, contents-stand}
 
 -- The entries es, whose contents lie in the values v, are written as the fields cs.
@@ -91,13 +92,13 @@ shown at said u bytes out h =
 
 -- A writer by the test p.
 module _ (p : Test) (t : Table) (v n out : List ℕ) (u : ℕ) (h : answerBy p t v n out ≡ Written u) where
-  pub at : ℕ
+  at : ℕ
   at = written-ended p t v n out u h .0
 
-  pub said : ℕ
+  said : ℕ
   said = written-ended p t v n out u h .1 .0
 
-  pub ended : walked p v n ≡ ends at said
+  ended : walked p v n ≡ ends at said
   unfolding at said
   ended = written-ended p t v n out u h .1 .1
 
@@ -168,20 +169,22 @@ module _ (p : Test) (t : Table) (v n out : List ℕ) (u : ℕ) (h : answerBy p t
                   ∙ contents-stand t small (mtiIn n) (countIn n) cs (head .four) (head .digits) (head .least) (head .most) (w .taken) (drop u s);
             }
 
--- either writer
-pub exact-written : (t : Table) (v n out : List ℕ) (u : ℕ) → answerBy (exactFault t) t v n out ≡ Written u
-    → WrittenAs t v (countIn n) 0 (entriesIn (exactFault t) v n) (contentsBy (exactFault t) v n)
-exact-written t v n out u h = exact-as t v (countIn n) (walk (exactFault t) t v n out u h)
+-- either writer: it takes all that the notes name
+pub named-is : (p : Test) (t : Table) (v n out : List ℕ) (u : ℕ) → answerBy p t v n out ≡ Written u → entriesIn any v n ≡ entriesIn p v n
+named-is p t v n out u h = weaker-entries p any (λ f c z. refl) v n (at p t v n out u h) (said p t v n out u h) (ended p t v n out u h)
 
-pub clean-written : (t : Table) (v n out : List ℕ) (u : ℕ) → answerBy (cleanFault t) t v n out ≡ Written u
-    → WrittenAs t v (countIn n) 0 (entriesIn (cleanFault t) v n) (cleanedIn t (contentsBy (cleanFault t) v n))
-clean-written t v n out u h = clean-as t v (countIn n) (walk (cleanFault t) t v n out u h)
+module _ (t : Table) (v n out : List ℕ) (u : ℕ) where
+  pub exact-written : answerBy (exactFault t) t v n out ≡ Written u → WrittenAs t v (countIn n) 0 (entriesIn (exactFault t) v n) (named v n)
+  exact-written h = rw (named-is (exactFault t) t v n out u h) (exact-as t v (countIn n) (walk (exactFault t) t v n out u h))
+
+  pub clean-written : answerBy (cleanFault t) t v n out ≡ Written u → WrittenAs t v (countIn n) 0 (entriesIn (cleanFault t) v n) (cleanedIn t (named v n))
+  clean-written h = rw (named-is (cleanFault t) t v n out u h) (clean-as t v (countIn n) (walk (cleanFault t) t v n out u h))
 
 pub writes-messages : (t : Table) → Small t → WritesMessages t
 writes-messages t small =
     record {
-      is-message = λ v n out u h. messages (exactFault t) t v n out u h (contentsBy (exactFault t) v n) (exact-written t v n out u h) small;
-      reads-back = λ v n out s b u h. reads-as (exactFault t) t v n out u h (contentsBy (exactFault t) v n) (exact-written t v n out u h) small s b;
+      is-message = λ v n out u h. messages (exactFault t) t v n out u h (named v n) (exact-written t v n out u h) small;
+      reads-back = λ v n out s b u h. reads-as (exactFault t) t v n out u h (named v n) (exact-written t v n out u h) small s b;
     }
 
 pub house-writes-messages : WritesMessages house

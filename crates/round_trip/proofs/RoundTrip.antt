@@ -15,7 +15,7 @@ use Rattle.field_table.specs.House.{house}
 use Rattle.field_table.proofs.Rows.{Small, house-small}
 use Rattle.field_write.specs.Fields.{exactFault}
 use Rattle.bitmap.specs.Bitmaps.{setOf, mapsFor}
-use Rattle.message_language.specs.Language.{Reading, Message, Begins}
+use Rattle.message_language.specs.Language.{Reading, Begins}
 use Rattle.message_notes.specs.Notes.{notesOf, notesRoom}
 use Rattle.message_reader.specs.Reader.{notesAfter}
 use Rattle.message_walk.proofs.Written.{count-in, mti-in}

@@ -6,7 +6,7 @@
 --   Content                   == a field with its content: its number and the bytes
 --   content f c               == field f with the content c
 --   contentsIn v es           == the fields of the entries es with their contents, which lie in the values v
---   contentsBy p v n          == those that the notes n name in the values v, where the test p is asked of contents
+--   named v n                 == those that the notes n name in the values v, in their order, up to the end note or a note with fault 9, 10 or 11
 --   numbersIn cs              == the numbers of the fields cs
 --   spelt t cs                == the fields cs, one after the other: length digits, of which a fixed field has none, and content
 --   messageWith t mti m cs    == the message of them: MTI, m bitmaps that name the fields, the fields
@@ -29,8 +29,8 @@ use mathlib.Core.List.{List, [], _∷_, _++_}
 use lib.ListN.{length, take, replicate}
 use Rattle.octets.specs.Lists.{between, all, lay}
 use Rattle.octets.specs.Numbers.{decimal}
-use Rattle.refusal.specs.Numbers.{lengthNotAllowed, fieldAbsent}
-use Rattle.refusal.specs.Refusals.{refusal, told}
+use Rattle.refusal.specs.Numbers.{fieldAbsent}
+use Rattle.refusal.specs.Refusals.{refusal}
 use Rattle.refusal.specs.declared.Refusal.{Refusal}
 use Rattle.refusal.specs.declared.Output.the-variants.{Written, Refused as WriteRefused}
 use Rattle.field_table.specs.Table.{Table}
@@ -41,7 +41,7 @@ use Rattle.message_language.specs.Language.{Entry, entry, Reading, Message, Beg
 use Rattle.message_notes.specs.Notes.{headSize, fieldNoteSize, notesOf, notesRoom}
 use Rattle.message_reader.specs.Reader.{readAnswer, notesAfter}
 use Rattle.message_reader.specs.declared.ReadAnswer.the-variants.{Accepted}
-use Rattle.message_walk.specs.Walk.{Test, countIn, mtiIn, contentOf, entriesIn}
+use Rattle.message_walk.specs.Walk.{any, countIn, mtiIn, contentOf, entriesIn}
 use Rattle.message_lookup.specs.Lookup.{lookedUp}
 use Rattle.message_lookup.specs.declared.Found.the-variants.{At, Refused}
 use Rattle.message_write.specs.Written.{answerBy, outputBy, paddedBy}
@@ -81,8 +81,8 @@ unfoldable pub contentsIn : List ℕ → List Entry → List Content
 contentsIn v [] = []
 contentsIn v (e ∷ es) = content (e .number) (contentOf v (e .offset) (e .size)) ∷ contentsIn v es
 
-abbrev pub contentsBy : Test → List ℕ → List ℕ → List Content
-contentsBy p v n = contentsIn v (entriesIn p v n)
+abbrev pub named : List ℕ → List ℕ → List Content
+named v n = contentsIn v (entriesIn any v n)
 
 unfoldable pub numbersIn : List Content → List ℕ
 numbersIn [] = []
@@ -120,7 +120,7 @@ pub record WritesMessages (t : Table) : Type 0 where
   pub is-message :
       (v n out : List ℕ) (u : ℕ) →
       answerBy (exactFault t) t v n out ≡ Written u →
-      Message t 3 (take u (outputBy (exactFault t) t v n out)) (readingOf t (mtiIn n) (countIn n) (contentsBy (exactFault t) v n))
+      Message t 3 (take u (outputBy (exactFault t) t v n out)) (readingOf t (mtiIn n) (countIn n) (named v n))
   -- The reader, given any input s that begins with those bytes (the output itself, or the bytes alone, or with others behind them), and
   -- room for its notes, reads the contents that the notes n name in the values v.
   pub reads-back :
@@ -128,7 +128,7 @@ pub record WritesMessages (t : Table) : Type 0 where
       answerBy (exactFault t) t v n out ≡ Written u →
       take u s ≡ take u (outputBy (exactFault t) t v n out) →
       notesRoom ≤ length b →
-      ReadsAs t s b u (mtiIn n) (countIn n) (contentsBy (exactFault t) v n)
+      ReadsAs t s b u (mtiIn n) (countIn n) (named v n)
 
 unfoldable pub cleanedIn : Table → List Content → List Content
 cleanedIn t [] = []
@@ -144,28 +144,23 @@ pub record Short (t : Table) (f : ℕ) (cs : List Content) : Type 0 where
 
 -- Theorem 4, first part: "Cleaning agrees with exact writing, with an empty padded set, where nothing is short".
 pub record AgreesWithExact (t : Table) : Type 0 where
-  -- For all values v, notes n and outputs, unless the exact writer finds a length that is not allowed (12): the cleaning writer answers the
-  -- same, be it the length written or a refusal, …
+  -- Where nothing that the notes name is short, the cleaning writer answers the same, be it the length written or a refusal, …
   pub same-answer :
       (v n out : List ℕ) →
-      (told (answerBy (exactFault t) t v n out) .refused .number ≡ lengthNotAllowed → ⊥) →
+      ((f : ℕ) → Short t f (named v n) → ⊥) →
       answerBy (cleanFault t) t v n out ≡ answerBy (exactFault t) t v n out
   -- … leaves the same bytes …
   pub same-output :
       (v n out : List ℕ) →
-      (told (answerBy (exactFault t) t v n out) .refused .number ≡ lengthNotAllowed → ⊥) →
+      ((f : ℕ) → Short t f (named v n) → ⊥) →
       outputBy (cleanFault t) t v n out ≡ outputBy (exactFault t) t v n out
   -- … and names no field as padded.
   pub none-padded :
       (v n out : List ℕ) →
-      (told (answerBy (exactFault t) t v n out) .refused .number ≡ lengthNotAllowed → ⊥) →
+      ((f : ℕ) → Short t f (named v n) → ⊥) →
       paddedBy (cleanFault t) t v n out ≡ noFields
-  -- Where the cleaning writer writes u bytes and no field is short, the exact writer writes as many, and so the same.
-  pub exact-too :
-      (v n out : List ℕ) (u : ℕ) →
-      answerBy (cleanFault t) t v n out ≡ Written u →
-      ((f : ℕ) → Short t f (contentsBy (cleanFault t) v n) → ⊥) →
-      answerBy (exactFault t) t v n out ≡ Written u
+  -- Nothing is short wherever the exact writer writes.
+  pub exact-not-short : (v n out : List ℕ) (u : ℕ) → answerBy (exactFault t) t v n out ≡ Written u → (f : ℕ) → Short t f (named v n) → ⊥
 
 -- Theorem 4, its other parts: "otherwise the output differs only in the padded fields; the padded set is exactly the set of short fixed
 -- fields; no content byte is ever dropped."
@@ -174,13 +169,13 @@ pub record PadsShortAlone (t : Table) : Type 0 where
   pub exact-writes :
       (v n out : List ℕ) (u : ℕ) →
       answerBy (exactFault t) t v n out ≡ Written u →
-      outputBy (exactFault t) t v n out ≡ lay (messageWith t (mtiIn n) (countIn n) (contentsBy (exactFault t) v n)) out
-  -- … and the cleaning writer's is the same, with each content cleaned. The MTI and the bitmaps do not differ, nor any length digit, …
+      outputBy (exactFault t) t v n out ≡ lay (messageWith t (mtiIn n) (countIn n) (named v n)) out
+  -- … and the cleaning writer's is the same with each content cleaned: the MTI, the bitmaps and the fields' order do not differ, …
   pub clean-writes :
       (v n out : List ℕ) (u : ℕ) →
       answerBy (cleanFault t) t v n out ≡ Written u →
-      outputBy (cleanFault t) t v n out ≡ lay (messageWith t (mtiIn n) (countIn n) (cleanedIn t (contentsBy (cleanFault t) v n))) out
-  -- … nor a content that is not short;
+      outputBy (cleanFault t) t v n out ≡ lay (messageWith t (mtiIn n) (countIn n) (cleanedIn t (named v n))) out
+  -- … nor a field whose content is not short;
   pub others-stay : (f : ℕ) (c : List ℕ) → isShort t f (length c) ≡ false → cleaned t f c ≡ c
   -- and whatever the content, it stands there in one piece, with nothing but padding beside it.
   pub nothing-dropped :
@@ -192,11 +187,11 @@ pub record PadsShortAlone (t : Table) : Type 0 where
   pub padded-short :
       (v n out : List ℕ) (u : ℕ) →
       answerBy (cleanFault t) t v n out ≡ Written u →
-      (f : ℕ) → bitOf (paddedBy (cleanFault t) t v n out) f ≡ true → Short t f (contentsBy (cleanFault t) v n)
+      (f : ℕ) → bitOf (paddedBy (cleanFault t) t v n out) f ≡ true → Short t f (named v n)
   pub short-padded :
       (v n out : List ℕ) (u : ℕ) →
       answerBy (cleanFault t) t v n out ≡ Written u →
-      (f : ℕ) → Short t f (contentsBy (cleanFault t) v n) → bitOf (paddedBy (cleanFault t) t v n out) f ≡ true
+      (f : ℕ) → Short t f (named v n) → bitOf (paddedBy (cleanFault t) t v n out) f ≡ true
   -- … and where it is refused, none.
   pub refused-none : (v n out : List ℕ) (r : Refusal) → answerBy (cleanFault t) t v n out ≡ WriteRefused r → paddedBy (cleanFault t) t v n out ≡ noFields
   -- Reading back what was written gives the cleaned contents, …
@@ -205,7 +200,7 @@ pub record PadsShortAlone (t : Table) : Type 0 where
       answerBy (cleanFault t) t v n out ≡ Written u →
       take u s ≡ take u (outputBy (cleanFault t) t v n out) →
       notesRoom ≤ length b →
-      ReadsAs t s b u (mtiIn n) (countIn n) (cleanedIn t (contentsBy (cleanFault t) v n))
+      ReadsAs t s b u (mtiIn n) (countIn n) (cleanedIn t (named v n))
   -- … and the exact writer, given what was written and the notes that the reader makes of it, and enough room, writes the same again.
   pub exact-again :
       (v n out s b d : List ℕ) (u : ℕ) →
