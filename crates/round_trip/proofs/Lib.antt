@@ -7,3 +7,4 @@ pub mod Maps
 pub mod Noted
 pub mod Rereading
 pub mod RoundTrip
+pub mod Shorts
