@@ -2,8 +2,8 @@
 -- Assumes nothing.
 use Prim.Native.Nat.{ℕ, _+_}
 use mathlib.Core.Path.{_≡_, refl, sym, ap, _∙_}
-use mathlib.Core.Bool.{true}
-use mathlib.Core.List.{List, [], _++_, append-nil}
+use mathlib.Core.Bool.{true, false}
+use mathlib.Core.List.{List, [], _∷_, _++_, append-nil}
 use native.Mathlib.Omega.{arith}
 use lib.ListN.{length, drop, replicate}
 use Rattle.octets.specs.Lists.{all}
@@ -14,7 +14,7 @@ use Rattle.refusal.specs.declared.Output.the-variants.{Written, Refused}
 use Rattle.field_table.specs.Table.{Table}
 use Rattle.field_table.specs.House.{house}
 use Rattle.field_table.proofs.Rows.{Small, house-small}
-use Rattle.field_write.specs.Fields.{exactFault, cleanFault, missing, padByte, padsLeft, padded, cleaned}
+use Rattle.field_write.specs.Fields.{exactFault, cleanFault, isShort, missing, padByte, padsLeft, padded, cleaned}
 use Rattle.field_write.proofs.Cleaned.{not-short-whole, cleaned-exact}
 use Rattle.bitmap.specs.Bits.{bitOf}
 use Rattle.bitmap.specs.Bitmaps.{isField, isIn, noFields, setOf, setFrom}
@@ -28,7 +28,7 @@ use Rattle.message_walk.proofs.Agreeing.{Agree, same-walked, same-entries}
 use Rattle.message_walk.proofs.Written.{Walkable, walkable}
 use Rattle.message_write.specs.Written.{messageOf, shortIn, bytesBy, answerBy, outputBy, paddedOn, paddedBy}
 use Rattle.message_write.proofs.Answering.{padded-refused}
-use Rattle.round_trip.specs.RoundTrip.{named, cleanedIn, readingOf, Short, AgreesWithExact, PadsShortAlone}
+use Rattle.round_trip.specs.RoundTrip.{Content, content, named, cleanedIn, readingOf, Short, AgreesWithExact, PadsShortAlone}
 use Rattle.round_trip.proofs.Made.{no-member}
 use Rattle.round_trip.proofs.Rereading.{walk, named-is, written, begins, begins-maps, reads-as, exact-written, clean-written}
 use Rattle.round_trip.proofs.Shorts.{is-short, short-fields, listed-short, short-listed, none-listed, tests-alike, exact-long}
@@ -73,6 +73,14 @@ module _ (p : Test) (t : Table) (v n out : List ℕ) (u : ℕ) (h : answerBy p t
 
   pub short-padded : (f : ℕ) → Short t f (named v n) → bitOf (paddedBy p t v n out) f ≡ true
   short-padded f x = padded-bit f ∙ is-listed f x
+
+  pub only-padded : (before : List Content) (f : ℕ) (c : List ℕ) (after : List Content) → named v n ≡ before ++ (content f c ∷ after)
+      → bitOf (paddedBy p t v n out) f ≡ false → cleaned t f c ≡ c
+  only-padded before f c after e clear =
+      not-short-whole t f c
+      (by-bool (isShort t f (length c))
+      (λ y. absurd (false-true (sym clear ∙ padded-bit f ∙ short-listed p t v (countIn n) passes f before c after e y)))
+      (λ y. y))
 
 -- Nothing is short where the exact writer writes.
 written-not-short : (t : Table) (v n out : List ℕ) (u : ℕ) → answerBy (exactFault t) t v n out ≡ Written u → (f : ℕ) → Short t f (named v n) → ⊥
@@ -134,7 +142,7 @@ pads-short-alone t small =
     record {
       exact-writes = λ v n out u h. written (exactFault t) t v n out u h (named v n) (exact-written t v n out u h);
       clean-writes = λ v n out u h. written (cleanFault t) t v n out u h (cleanedIn t (named v n)) (clean-written t v n out u h);
-      others-stay = not-short-whole t;
+      only-padded-differ = only-padded (cleanFault t) t;
       nothing-dropped = in-one-piece t;
       cleaned-taken = cleaned-exact t;
       padded-short = padded-short (cleanFault t) t;

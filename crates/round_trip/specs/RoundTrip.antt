@@ -34,7 +34,7 @@ use Rattle.refusal.specs.Refusals.{refusal}
 use Rattle.refusal.specs.declared.Refusal.{Refusal}
 use Rattle.refusal.specs.declared.Output.the-variants.{Written, Refused as WriteRefused}
 use Rattle.field_table.specs.Table.{Table}
-use Rattle.field_write.specs.Fields.{exactFault, cleanFault, isShort, padByte, cleaned}
+use Rattle.field_write.specs.Fields.{exactFault, cleanFault, padByte, cleaned}
 use Rattle.bitmap.specs.Bits.{bitOf}
 use Rattle.bitmap.specs.Bitmaps.{noFields, setOf, mapsFor}
 use Rattle.message_language.specs.Language.{Entry, entry, Reading, Message, Begins}
@@ -175,9 +175,15 @@ pub record PadsShortAlone (t : Table) : Type 0 where
       (v n out : List ℕ) (u : ℕ) →
       answerBy (cleanFault t) t v n out ≡ Written u →
       outputBy (cleanFault t) t v n out ≡ lay (messageWith t (mtiIn n) (countIn n) (cleanedIn t (named v n))) out
-  -- … nor a field whose content is not short;
-  pub others-stay : (f : ℕ) (c : List ℕ) → isShort t f (length c) ≡ false → cleaned t f c ≡ c
-  -- and whatever the content, it stands there in one piece, with nothing but padding beside it.
+  -- … nor any field that is not in the padded set;
+  pub only-padded-differ :
+      (v n out : List ℕ) (u : ℕ) →
+      answerBy (cleanFault t) t v n out ≡ Written u →
+      (before : List Content) (f : ℕ) (c : List ℕ) (after : List Content) →
+      named v n ≡ before ++ (content f c ∷ after) →
+      bitOf (paddedBy (cleanFault t) t v n out) f ≡ false →
+      cleaned t f c ≡ c
+  -- and whatever the content, all of it stands there in one piece, with nothing but padding beside it.
   pub nothing-dropped :
       (f : ℕ) (c : List ℕ) →
       (i : ℕ) × ((j : ℕ) × (cleaned t f c ≡ replicate i (padByte (t .class f)) ++ (c ++ replicate j (padByte (t .class f)))))
