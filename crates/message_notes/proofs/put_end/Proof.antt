@@ -1,10 +1,10 @@
 -- The kind is stored, and the number laid behind it.
-use mathlib.Core.Path.{refl, ap, _∙_}
+use mathlib.Core.Path.{refl, _∙_}
 use mathlib.Core.List.{[], _∷_}
 use Prim.Native.Nat.{_-_}
-use lib.ListN.{length, set, length-set}
+use lib.ListN.{set, length-set}
 use Rattle.octets.specs.Numbers.{bigEndian}
-use Rattle.octets.proofs.Lists.{lay-length, placed-short, placed-done}
+use Rattle.octets.proofs.Lists.{placed-short, placed-done}
 use Rattle.octets.proofs.Parts.{lay-one, placed-part}
 use Rattle.message_notes.specs.Notes.{endNote}
 use Rattle.message_notes.proofs.Sizes.{bytes-long, end-long}
@@ -32,12 +32,7 @@ put-big-endian-requires : tie.Need-put-big-endian-requires
 put-big-endian-requires c κs = search needs
 
 same-length : tie.Need-same-length
-same-length c =
-    let a = c .before .before .before .before .before .before .args in
-    let d = a .out .now in
-    let e = placed-part (4 ∷ []) (bigEndian 4 (a .used)) d (set d 0 4) _ 1 (lay-one 4 d (omega arith)) refl (omega (arith, bytes-long 4 (a .used)))
-    (c .before .before .put-big-endian .ensures) in
-    ap length e ∙ lay-length _ d (omega (arith, bytes-long 4 (a .used)))
+same-length c = c .before .out .given .1 ∙ simp length-set
 
 returns-2 : tie.Need-returns-2
 unfolding endNote

@@ -6,7 +6,7 @@ use lib.ListN.{length, set, length-set, length-append}
 use mathlib.Core.List.{append-assoc}
 use Rattle.octets.specs.Lists.{lay}
 use Rattle.octets.specs.Numbers.{bigEndian}
-use Rattle.octets.proofs.Lists.{lay-length, placed-short, placed-done}
+use Rattle.octets.proofs.Lists.{placed-short, placed-done}
 use Rattle.octets.proofs.Parts.{lay-one, placed-part}
 use Rattle.message_notes.specs.Notes.{fieldNote}
 use Rattle.message_notes.proofs.Sizes.{bytes-long, field-long}
@@ -14,6 +14,13 @@ use borrow.Author.Needs.{needs}
 use native.Mathlib.Omega.{arith}
 use Rattle.message_notes.proofs.put_field.Statement.{statement}
 use Rattle.message_notes.proofs.put_field.Tie as tie
+
+-- the number is written, and then the offset; the output stays as long as it was
+abbrev start : tie.After-slice-known2 → tie.Start
+start c = c .before .before .before .before .before .before
+
+abbrev back : tie.After-slice-known3 → tie.After-slice-known2
+back c = c .before .before .before .before
 
 returns : tie.Need-returns
 returns c = placed-short _ _ _ (field-long _) (c .if1 .taken)
@@ -34,28 +41,10 @@ put-big-endian-requires : tie.Need-put-big-endian-requires
 put-big-endian-requires c κs = search needs
 
 sub-put-big-endian-2 : tie.Need-sub-put-big-endian-2
-sub-put-big-endian-2 c =
-    let c1 = c in
-    let a = c1 .before .before .before .before .before .before .args in
-    let d = a .out .now in
-    let n1 = bytes-long 1 (a .number) in
-    let n4 = bytes-long 4 (a .offset) in
-    let n2 = bytes-long 2 (a .length) in
-    let e1 = placed-part (2 ∷ []) (bigEndian 1 (a .number)) d (set d 0 2) _ 1 (lay-one 2 d (omega arith)) refl (omega arith)
-    (c1 .before .before .put-big-endian .ensures) in
-    omega (arith, ap length e1 ∙ lay-length _ d (omega arith))
+sub-put-big-endian-2 c = omega (arith, c .before .out .given, length-set (start c .args .out .now) 0 2)
 
 part-put-big-endian-start-2 : tie.Need-part-put-big-endian-start-2
-part-put-big-endian-start-2 c =
-    let c1 = c in
-    let a = c1 .before .before .before .before .before .before .args in
-    let d = a .out .now in
-    let n1 = bytes-long 1 (a .number) in
-    let n4 = bytes-long 4 (a .offset) in
-    let n2 = bytes-long 2 (a .length) in
-    let e1 = placed-part (2 ∷ []) (bigEndian 1 (a .number)) d (set d 0 2) _ 1 (lay-one 2 d (omega arith)) refl (omega arith)
-    (c1 .before .before .put-big-endian .ensures) in
-    omega (arith, ap length e1 ∙ lay-length _ d (omega arith))
+part-put-big-endian-start-2 c = omega (arith, c .before .out .given, length-set (start c .args .out .now) 0 2)
 
 part-put-big-endian-end-2 : tie.Need-part-put-big-endian-end-2
 part-put-big-endian-end-2 c = search needs
@@ -64,34 +53,10 @@ put-big-endian-requires-2 : tie.Need-put-big-endian-requires-2
 put-big-endian-requires-2 c κs = search needs
 
 sub-put-big-endian-3 : tie.Need-sub-put-big-endian-3
-sub-put-big-endian-3 c =
-    let c2 = c in
-    let c1 = c2 .before .before .before .before in
-    let a = c1 .before .before .before .before .before .before .args in
-    let d = a .out .now in
-    let n1 = bytes-long 1 (a .number) in
-    let n4 = bytes-long 4 (a .offset) in
-    let n2 = bytes-long 2 (a .length) in
-    let e1 = placed-part (2 ∷ []) (bigEndian 1 (a .number)) d (set d 0 2) _ 1 (lay-one 2 d (omega arith)) refl (omega arith)
-    (c1 .before .before .put-big-endian .ensures) in
-    let e2 = placed-part (2 ∷ bigEndian 1 (a .number)) (bigEndian 4 (a .offset)) d _ _ 2 e1 (omega arith) (omega arith)
-    (c2 .before .before .put-big-endian2 .ensures) in
-    omega (arith, ap length e2 ∙ lay-length _ d (omega (arith, length-append (bigEndian 1 (a .number)) (bigEndian 4 (a .offset)))))
+sub-put-big-endian-3 c = omega (arith, c .before .out2 .given, back c .before .out .given, length-set (start (back c) .args .out .now) 0 2)
 
 part-put-big-endian-start-3 : tie.Need-part-put-big-endian-start-3
-part-put-big-endian-start-3 c =
-    let c2 = c in
-    let c1 = c2 .before .before .before .before in
-    let a = c1 .before .before .before .before .before .before .args in
-    let d = a .out .now in
-    let n1 = bytes-long 1 (a .number) in
-    let n4 = bytes-long 4 (a .offset) in
-    let n2 = bytes-long 2 (a .length) in
-    let e1 = placed-part (2 ∷ []) (bigEndian 1 (a .number)) d (set d 0 2) _ 1 (lay-one 2 d (omega arith)) refl (omega arith)
-    (c1 .before .before .put-big-endian .ensures) in
-    let e2 = placed-part (2 ∷ bigEndian 1 (a .number)) (bigEndian 4 (a .offset)) d _ _ 2 e1 (omega arith) (omega arith)
-    (c2 .before .before .put-big-endian2 .ensures) in
-    omega (arith, ap length e2 ∙ lay-length _ d (omega (arith, length-append (bigEndian 1 (a .number)) (bigEndian 4 (a .offset)))))
+part-put-big-endian-start-3 c = omega (arith, c .before .out2 .given, back c .before .out .given, length-set (start (back c) .args .out .now) 0 2)
 
 part-put-big-endian-end-3 : tie.Need-part-put-big-endian-end-3
 part-put-big-endian-end-3 c = search needs
@@ -101,44 +66,27 @@ put-big-endian-requires-3 c κs = search needs
 
 same-length : tie.Need-same-length
 same-length c =
-    let c3 = c in
-    let c2 = c3 .before .before .before .before in
-    let c1 = c2 .before .before .before .before in
-    let a = c1 .before .before .before .before .before .before .args in
-    let d = a .out .now in
-    let n1 = bytes-long 1 (a .number) in
-    let n4 = bytes-long 4 (a .offset) in
-    let n2 = bytes-long 2 (a .length) in
-    let e1 = placed-part (2 ∷ []) (bigEndian 1 (a .number)) d (set d 0 2) _ 1 (lay-one 2 d (omega arith)) refl (omega arith)
-    (c1 .before .before .put-big-endian .ensures) in
-    let e2 = placed-part (2 ∷ bigEndian 1 (a .number)) (bigEndian 4 (a .offset)) d _ _ 2 e1 (omega arith) (omega arith)
-    (c2 .before .before .put-big-endian2 .ensures) in
-    let n5 = length-append (bigEndian 1 (a .number)) (bigEndian 4 (a .offset)) in
-    let e3 = placed-part (2 ∷ (bigEndian 1 (a .number) ++ bigEndian 4 (a .offset))) (bigEndian 2 (a .length)) d _ _ 6 e2 (omega arith) (omega arith)
-    (c3 .before .before .put-big-endian3 .ensures) in
-    let n7 = length-append (bigEndian 1 (a .number) ++ bigEndian 4 (a .offset)) (bigEndian 2 (a .length)) in
-    ap length e3 ∙ lay-length _ d (omega arith)
+    let b = c .before .before .before .before in
+    c .before .out3 .given .1 ∙ b .before .out2 .given .1 ∙ back b .before .out .given .1 ∙ simp length-set
 
 returns-2 : tie.Need-returns-2
 unfolding fieldNote
 returns-2 c =
-    let c3 = c in
-    let c2 = c3 .before .before .before .before in
-    let c1 = c2 .before .before .before .before in
-    let a = c1 .before .before .before .before .before .before .args in
+    let c2 = c .before .before .before .before in
+    let c1 = back c2 in
+    let a = start c1 .args in
     let d = a .out .now in
+    let f = bigEndian 1 (a .number) in
+    let o = bigEndian 4 (a .offset) in
+    let n = bigEndian 2 (a .length) in
     let n1 = bytes-long 1 (a .number) in
     let n4 = bytes-long 4 (a .offset) in
     let n2 = bytes-long 2 (a .length) in
-    let e1 = placed-part (2 ∷ []) (bigEndian 1 (a .number)) d (set d 0 2) _ 1 (lay-one 2 d (omega arith)) refl (omega arith)
-    (c1 .before .before .put-big-endian .ensures) in
-    let e2 = placed-part (2 ∷ bigEndian 1 (a .number)) (bigEndian 4 (a .offset)) d _ _ 2 e1 (omega arith) (omega arith)
-    (c2 .before .before .put-big-endian2 .ensures) in
-    let n5 = length-append (bigEndian 1 (a .number)) (bigEndian 4 (a .offset)) in
-    let e3 = placed-part (2 ∷ (bigEndian 1 (a .number) ++ bigEndian 4 (a .offset))) (bigEndian 2 (a .length)) d _ _ 6 e2 (omega arith) (omega arith)
-    (c3 .before .before .put-big-endian3 .ensures) in
-    placed-done _ _ _ (field-long _) _ (omega arith)
-    (e3 ∙ ap (λ (l : List ℕ). lay (2 ∷ l) d) (append-assoc (bigEndian 1 (a .number)) (bigEndian 4 (a .offset)) (bigEndian 2 (a .length))))
+    let n5 = length-append f o in
+    let e1 = placed-part (2 ∷ []) f d (set d 0 2) _ 1 (lay-one 2 d (omega arith)) refl (omega arith) (c1 .before .before .put-big-endian .ensures) in
+    let e2 = placed-part (2 ∷ f) o d _ _ 2 e1 (omega arith) (omega arith) (c2 .before .before .put-big-endian2 .ensures) in
+    let e3 = placed-part (2 ∷ (f ++ o)) n d _ _ 6 e2 (omega arith) (omega arith) (c .before .before .put-big-endian3 .ensures) in
+    placed-done _ _ _ (field-long _) _ (omega arith) (e3 ∙ ap (λ (l : List ℕ). lay (2 ∷ l) d) (append-assoc f o n))
 
 pub put-field-spec : {M : Type 1} → statement M
 put-field-spec =
