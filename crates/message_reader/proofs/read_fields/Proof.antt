@@ -1,12 +1,7 @@
 -- Reading from the start is reading what is left from the place and the number that the loop has come to (Turns).
-use mathlib.Core.Path.{_≡_, sym, ap, _∙_}
-use mathlib.Core.Bool.{true, false}
-use mathlib.Core.List.{List}
-use Prim.Native.Nat.{ℕ, _+_, _*_, _-_}
+use Prim.Native.Nat.{_+_, _*_, _-_}
 use Rattle.field_table.specs.House.{house}
-use Rattle.bitmap.specs.Bitmaps.{hasField}
-use Rattle.message_reader.specs.Reader.{mapsOf}
-use Rattle.message_reader.proofs.Turns.{maps-part, at-part, Scanned, scan-first, scan-skip, scan-refused, scan-within, scan-read, scan-end}
+use Rattle.message_reader.proofs.Turns.{Met, met, passed-over, Scanned, scan-first, scan-skip, scan-refused, scan-within, scan-read, scan-end}
 use borrow.Author.Needs.{needs}
 use native.Mathlib.Omega.{arith}
 use Rattle.message_reader.proofs.read_fields.Statement.{statement}
@@ -17,6 +12,18 @@ Inv-loop message bitmaps start end maps at₀ field₀ at field = Scanned house 
 
 abbrev μ-loop : tie.MeasureT-loop
 μ-loop message bitmaps start end maps at₀ field₀ at field = 64 * bitmaps + 1 - field
+
+abbrev start : tie.At-loop Inv-loop μ-loop → tie.Start Inv-loop μ-loop
+start l = l .before .before .before
+
+-- the turn of the loop in which a field was met and read
+abbrev here : tie.After-read-field Inv-loop μ-loop → tie.At-loop Inv-loop μ-loop
+here c = c .before .before .before .before .before
+
+met-at : (c : tie.After-read-field Inv-loop μ-loop) → Met house (start (here c) .args .message .now) (start (here c) .args .bitmaps) (here c .loop .at) (here c .loop .field) (c .read-field .result)
+met-at c =
+    let present = c .before .before in
+    met house _ _ _ _ _ _ (present .before .before .loop-test .taken) (present .before .has-field .ensures) (present .if1 .taken) (c .read-field .ensures)
 
 mul-start : tie.Need-mul-start Inv-loop μ-loop
 mul-start c = search needs
@@ -40,7 +47,7 @@ part-maps-end : tie.Need-part-maps-end Inv-loop μ-loop
 part-maps-end c = search needs
 
 loop-holds : tie.Need-loop-holds Inv-loop μ-loop
-loop-holds c = scan-first _ _ _ (c .before .before .pre .1)
+loop-holds c = scan-first (c .before .before .pre .1)
 
 has-field-requires : tie.Need-has-field-requires Inv-loop μ-loop
 has-field-requires c κs = search needs
@@ -62,51 +69,21 @@ enum-known-number c = search needs
 
 returns : tie.Need-returns Inv-loop μ-loop
 returns c =
-    let rf = c .before .before .before in
-    let then = rf .before .before in
-    let l = then .before .before .before in
-    let a = l .before .before .before .args in
-    let s = a .message .now in
-    let m = a .bitmaps in
-    let at = l .loop .at in
-    let f = l .loop .field in
-    let y : hasField (mapsOf s m) f ≡ true =
-    ap (λ (x : List ℕ). hasField x f) (sym (maps-part s m)) ∙ sym (then .before .has-field .ensures) ∙ then .if1 .taken in
-    let e = at-part house s at f _ _ (rf .read-field .ensures) (c .before .number .given .1) in
-    scan-refused house s m at f (l .loop .inv) (then .before .before .loop-test .taken) y _ e
+    let k = c .before .before .before in
+    scan-refused (here k .loop .inv) (met-at k) (c .before .number .given .1)
 
 enum-known-start : tie.Need-enum-known-start Inv-loop μ-loop
 enum-known-start c = search needs
 
 add-at : tie.Need-add-at Inv-loop μ-loop
 add-at c =
-    let rf = c .before .before .before in
-    let then = rf .before .before in
-    let l = then .before .before .before in
-    let a = l .before .before .before .args in
-    let s = a .message .now in
-    let m = a .bitmaps in
-    let at = l .loop .at in
-    let f = l .loop .field in
-    let y : hasField (mapsOf s m) f ≡ true =
-    ap (λ (x : List ℕ). hasField x f) (sym (maps-part s m)) ∙ sym (then .before .has-field .ensures) ∙ then .if1 .taken in
-    let e = at-part house s at f _ _ (rf .read-field .ensures) (c .before .start .given .1) in
-    omega (arith, scan-within house s m at f (l .loop .inv) (then .before .before .loop-test .taken) y _ _ e)
+    let k = c .before .before .before in
+    omega (arith, scan-within (here k .loop .inv) (met-at k) (c .before .start .given .1))
 
 add-at-2 : tie.Need-add-at-2 Inv-loop μ-loop
 add-at-2 c =
-    let rf = c .before .before .before in
-    let then = rf .before .before in
-    let l = then .before .before .before in
-    let a = l .before .before .before .args in
-    let s = a .message .now in
-    let m = a .bitmaps in
-    let at = l .loop .at in
-    let f = l .loop .field in
-    let y : hasField (mapsOf s m) f ≡ true =
-    ap (λ (x : List ℕ). hasField x f) (sym (maps-part s m)) ∙ sym (then .before .has-field .ensures) ∙ then .if1 .taken in
-    let e = at-part house s at f _ _ (rf .read-field .ensures) (c .before .start .given .1) in
-    omega (arith, scan-within house s m at f (l .loop .inv) (then .before .before .loop-test .taken) y _ _ e)
+    let k = c .before .before .before in
+    omega (arith, scan-within (here k .loop .inv) (met-at k) (c .before .start .given .1))
 
 add-field : tie.Need-add-field Inv-loop μ-loop
 add-field c = search needs
@@ -118,18 +95,8 @@ loop-less c =
 
 loop-again : tie.Need-loop-again Inv-loop μ-loop
 loop-again c =
-    let rf = c .before .before .before in
-    let then = rf .before .before in
-    let l = then .before .before .before in
-    let a = l .before .before .before .args in
-    let s = a .message .now in
-    let m = a .bitmaps in
-    let at = l .loop .at in
-    let f = l .loop .field in
-    let y : hasField (mapsOf s m) f ≡ true =
-    ap (λ (x : List ℕ). hasField x f) (sym (maps-part s m)) ∙ sym (then .before .has-field .ensures) ∙ then .if1 .taken in
-    let e = at-part house s at f _ _ (rf .read-field .ensures) (c .before .start .given .1) in
-    scan-read house s m at f (l .loop .inv) (then .before .before .loop-test .taken) y _ _ e
+    let k = c .before .before .before in
+    scan-read (here k .loop .inv) (met-at k) (c .before .start .given .1)
 
 add-field-2 : tie.Need-add-field-2 Inv-loop μ-loop
 add-field-2 c = search needs
@@ -140,17 +107,10 @@ loop-less-2 c = omega (arith, c .before .before .loop-test .taken)
 loop-again-2 : tie.Need-loop-again-2 Inv-loop μ-loop
 loop-again-2 c =
     let l = c .before .before .before in
-    let a = l .before .before .before .args in
-    let s = a .message .now in
-    let m = a .bitmaps in
-    let at = l .loop .at in
-    let f = l .loop .field in
-    let n : hasField (mapsOf s m) f ≡ false =
-    ap (λ (x : List ℕ). hasField x f) (sym (maps-part s m)) ∙ sym (c .before .has-field .ensures) ∙ c .if1 .left in
-    scan-skip house s m at f (l .loop .inv) (c .before .before .loop-test .taken) n
+    scan-skip (l .loop .inv) (passed-over (start l .args .message .now) _ _ _ (c .before .before .loop-test .taken) (c .before .has-field .ensures) (c .if1 .left))
 
 returns-2 : tie.Need-returns-2 Inv-loop μ-loop
-returns-2 c = scan-end _ _ _ _ _ (c .before .loop .inv) (c .loop-test .left)
+returns-2 c = scan-end (c .before .loop .inv) (c .loop-test .left)
 
 pub read-fields-spec : {M : Type 1} → statement M
 read-fields-spec =

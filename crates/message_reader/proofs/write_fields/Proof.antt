@@ -1,12 +1,7 @@
 -- The notes written and those of what is left from the place and the number that the loop has come to make the whole (Noting).
-use mathlib.Core.Path.{_≡_, sym, ap, _∙_}
-use mathlib.Core.Bool.{true, false}
-use mathlib.Core.List.{List}
-use Prim.Native.Nat.{ℕ, _+_, _*_, _-_}
+use Prim.Native.Nat.{_+_, _*_, _-_}
 use Rattle.field_table.specs.House.{house}
-use Rattle.bitmap.specs.Bitmaps.{hasField}
-use Rattle.message_reader.specs.Reader.{mapsOf}
-use Rattle.message_reader.proofs.Turns.{maps-part, at-part}
+use Rattle.message_reader.proofs.Turns.{Met, met, passed-over}
 use Rattle.message_reader.proofs.Noting.{Noted, noted-first, noted-skip, noted-refused, noted-room, noted-within, noted-read, noted-end}
 use borrow.Author.Needs.{needs}
 use native.Mathlib.Omega.{arith}
@@ -18,6 +13,18 @@ Inv-loop message bitmaps notes₀ start end maps at₀ written₀ field₀ notes
 
 abbrev μ-loop : tie.MeasureT-loop
 μ-loop message bitmaps notes₀ start end maps at₀ written₀ field₀ notes at written field = 64 * bitmaps + 1 - field
+
+abbrev start : tie.At-loop Inv-loop μ-loop → tie.Start Inv-loop μ-loop
+start l = l .before .before .before .before
+
+-- the turn of the loop in which a field was met and read
+abbrev here : tie.After-read-field Inv-loop μ-loop → tie.At-loop Inv-loop μ-loop
+here c = c .before .before .before .before .before
+
+met-at : (c : tie.After-read-field Inv-loop μ-loop) → Met house (start (here c) .args .message .now) (start (here c) .args .bitmaps) (here c .loop .at) (here c .loop .field) (c .read-field .result)
+met-at c =
+    let present = c .before .before in
+    met house _ _ _ _ _ _ (present .before .before .loop-test .taken) (present .before .has-field .ensures) (present .if1 .taken) (c .read-field .ensures)
 
 mul-start : tie.Need-mul-start Inv-loop μ-loop
 mul-start c = search needs
@@ -41,7 +48,7 @@ part-maps-end : tie.Need-part-maps-end Inv-loop μ-loop
 part-maps-end c = search needs
 
 loop-holds : tie.Need-loop-holds Inv-loop μ-loop
-loop-holds c = let r = c .before .before .before .pre in noted-first _ _ _ _ (r .0) (r .1 .0) (r .1 .1)
+loop-holds c = let r = c .before .before .before .pre in noted-first (r .0) (r .1 .0) (r .1 .1)
 
 has-field-requires : tie.Need-has-field-requires Inv-loop μ-loop
 has-field-requires c κs = search needs
@@ -66,70 +73,26 @@ same-length c = c .before .before .before .before .before .before .before .loop 
 
 returns : tie.Need-returns Inv-loop μ-loop
 returns c =
-    let rf = c .before .before in
-    let then = rf .before .before in
-    let l = then .before .before .before in
-    let a = l .before .before .before .before .args in
-    let s = a .message .now in
-    let m = a .bitmaps in
-    let at = l .loop .at in
-    let f = l .loop .field in
-    let go = then .before .before .loop-test .taken in
-    let y : hasField (mapsOf s m) f ≡ true =
-    ap (λ (x : List ℕ). hasField x f) (sym (maps-part s m)) ∙ sym (then .before .has-field .ensures) ∙ then .if1 .taken in
-    let e = at-part house s at f _ _ (rf .read-field .ensures) (c .enum-told .given .1) in
-    noted-refused house s m (a .notes .now) (l .loop .notes) at (l .loop .written) f (l .loop .inv) go y _ e
+    let k = c .before .before in
+    noted-refused (here k .loop .inv) (met-at k) (c .enum-told .given .1)
 
 enum-known-start : tie.Need-enum-known-start Inv-loop μ-loop
 enum-known-start c = search needs
 
 add-put-field : tie.Need-add-put-field Inv-loop μ-loop
 add-put-field c =
-    let rf = c .before .before .before in
-    let then = rf .before .before in
-    let l = then .before .before .before in
-    let a = l .before .before .before .before .args in
-    let s = a .message .now in
-    let m = a .bitmaps in
-    let at = l .loop .at in
-    let f = l .loop .field in
-    let go = then .before .before .loop-test .taken in
-    let y : hasField (mapsOf s m) f ≡ true =
-    ap (λ (x : List ℕ). hasField x f) (sym (maps-part s m)) ∙ sym (then .before .has-field .ensures) ∙ then .if1 .taken in
-    let e = at-part house s at f _ _ (rf .read-field .ensures) (c .before .start .given .1) in
-    omega (arith, noted-within house s m (a .notes .now) (l .loop .notes) at (l .loop .written) f (l .loop .inv) go y _ _ e)
+    let k = c .before .before .before in
+    omega (arith, noted-within (here k .loop .inv) (met-at k) (c .before .start .given .1))
 
 sub-put-field : tie.Need-sub-put-field Inv-loop μ-loop
 sub-put-field c =
-    let rf = c .before .before .before in
-    let then = rf .before .before in
-    let l = then .before .before .before in
-    let a = l .before .before .before .before .args in
-    let s = a .message .now in
-    let m = a .bitmaps in
-    let at = l .loop .at in
-    let f = l .loop .field in
-    let go = then .before .before .loop-test .taken in
-    let y : hasField (mapsOf s m) f ≡ true =
-    ap (λ (x : List ℕ). hasField x f) (sym (maps-part s m)) ∙ sym (then .before .has-field .ensures) ∙ then .if1 .taken in
-    let e = at-part house s at f _ _ (rf .read-field .ensures) (c .before .start .given .1) in
-    omega (arith, noted-room house s m (a .notes .now) (l .loop .notes) at (l .loop .written) f (l .loop .inv) go y)
+    let k = c .before .before .before in
+    omega (arith, noted-room (here k .loop .inv) (met-at k))
 
 part-put-field-start : tie.Need-part-put-field-start Inv-loop μ-loop
 part-put-field-start c =
-    let rf = c .before .before .before in
-    let then = rf .before .before in
-    let l = then .before .before .before in
-    let a = l .before .before .before .before .args in
-    let s = a .message .now in
-    let m = a .bitmaps in
-    let at = l .loop .at in
-    let f = l .loop .field in
-    let go = then .before .before .loop-test .taken in
-    let y : hasField (mapsOf s m) f ≡ true =
-    ap (λ (x : List ℕ). hasField x f) (sym (maps-part s m)) ∙ sym (then .before .has-field .ensures) ∙ then .if1 .taken in
-    let e = at-part house s at f _ _ (rf .read-field .ensures) (c .before .start .given .1) in
-    omega (arith, noted-room house s m (a .notes .now) (l .loop .notes) at (l .loop .written) f (l .loop .inv) go y)
+    let k = c .before .before .before in
+    omega (arith, noted-room (here k .loop .inv) (met-at k))
 
 part-put-field-end : tie.Need-part-put-field-end Inv-loop μ-loop
 part-put-field-end c = search needs
@@ -139,51 +102,20 @@ put-field-requires c κs = search needs
 
 add-at : tie.Need-add-at Inv-loop μ-loop
 add-at c =
-    let rf = c .before .before .before .before .before .before .before in
-    let then = rf .before .before in
-    let l = then .before .before .before in
-    let a = l .before .before .before .before .args in
-    let s = a .message .now in
-    let m = a .bitmaps in
-    let at = l .loop .at in
-    let f = l .loop .field in
-    let go = then .before .before .loop-test .taken in
-    let y : hasField (mapsOf s m) f ≡ true =
-    ap (λ (x : List ℕ). hasField x f) (sym (maps-part s m)) ∙ sym (then .before .has-field .ensures) ∙ then .if1 .taken in
-    let e = at-part house s at f _ _ (rf .read-field .ensures) (c .before .before .before .before .before .start .given .1) in
-    omega (arith, noted-within house s m (a .notes .now) (l .loop .notes) at (l .loop .written) f (l .loop .inv) go y _ _ e)
+    let b = c .before .before .before .before in
+    let k = b .before .before .before in
+    omega (arith, noted-within (here k .loop .inv) (met-at k) (b .before .start .given .1), start (here k) .good .0)
 
 add-at-2 : tie.Need-add-at-2 Inv-loop μ-loop
 add-at-2 c =
-    let rf = c .before .before .before .before .before .before .before in
-    let then = rf .before .before in
-    let l = then .before .before .before in
-    let a = l .before .before .before .before .args in
-    let s = a .message .now in
-    let m = a .bitmaps in
-    let at = l .loop .at in
-    let f = l .loop .field in
-    let go = then .before .before .loop-test .taken in
-    let y : hasField (mapsOf s m) f ≡ true =
-    ap (λ (x : List ℕ). hasField x f) (sym (maps-part s m)) ∙ sym (then .before .has-field .ensures) ∙ then .if1 .taken in
-    let e = at-part house s at f _ _ (rf .read-field .ensures) (c .before .before .before .before .before .start .given .1) in
-    omega (arith, noted-within house s m (a .notes .now) (l .loop .notes) at (l .loop .written) f (l .loop .inv) go y _ _ e)
+    let b = c .before .before .before .before in
+    let k = b .before .before .before in
+    omega (arith, noted-within (here k .loop .inv) (met-at k) (b .before .start .given .1), start (here k) .good .0)
 
 add-written : tie.Need-add-written Inv-loop μ-loop
 add-written c =
-    let rf = c .before .before .before .before .before .before .before in
-    let then = rf .before .before in
-    let l = then .before .before .before in
-    let a = l .before .before .before .before .args in
-    let s = a .message .now in
-    let m = a .bitmaps in
-    let at = l .loop .at in
-    let f = l .loop .field in
-    let go = then .before .before .loop-test .taken in
-    let y : hasField (mapsOf s m) f ≡ true =
-    ap (λ (x : List ℕ). hasField x f) (sym (maps-part s m)) ∙ sym (then .before .has-field .ensures) ∙ then .if1 .taken in
-    let e = at-part house s at f _ _ (rf .read-field .ensures) (c .before .before .before .before .before .start .given .1) in
-    omega (arith, noted-room house s m (a .notes .now) (l .loop .notes) at (l .loop .written) f (l .loop .inv) go y)
+    let k = c .before .before .before .before .before .before .before in
+    omega (arith, noted-room (here k .loop .inv) (met-at k))
 
 add-field : tie.Need-add-field Inv-loop μ-loop
 add-field c = search needs
@@ -193,19 +125,9 @@ loop-less c = omega (arith, c .before .before .before .before .before .before .b
 
 loop-again : tie.Need-loop-again Inv-loop μ-loop
 loop-again c =
-    let rf = c .before .before .before .before .before .before .before in
-    let then = rf .before .before in
-    let l = then .before .before .before in
-    let a = l .before .before .before .before .args in
-    let s = a .message .now in
-    let m = a .bitmaps in
-    let at = l .loop .at in
-    let f = l .loop .field in
-    let go = then .before .before .loop-test .taken in
-    let y : hasField (mapsOf s m) f ≡ true =
-    ap (λ (x : List ℕ). hasField x f) (sym (maps-part s m)) ∙ sym (then .before .has-field .ensures) ∙ then .if1 .taken in
-    let e = at-part house s at f _ _ (rf .read-field .ensures) (c .before .before .before .before .before .start .given .1) in
-    noted-read house s m (a .notes .now) (l .loop .notes) at (l .loop .written) f (l .loop .inv) go y _ _ e _ (c .before .before .put-field .ensures)
+    let b = c .before .before .before .before in
+    let k = b .before .before .before in
+    noted-read (here k .loop .inv) (met-at k) (b .before .start .given .1) (c .before .before .put-field .ensures)
 
 add-field-2 : tie.Need-add-field-2 Inv-loop μ-loop
 add-field-2 c = search needs
@@ -216,21 +138,13 @@ loop-less-2 c = omega (arith, c .before .before .loop-test .taken)
 loop-again-2 : tie.Need-loop-again-2 Inv-loop μ-loop
 loop-again-2 c =
     let l = c .before .before .before in
-    let a = l .before .before .before .before .args in
-    let s = a .message .now in
-    let m = a .bitmaps in
-    let at = l .loop .at in
-    let f = l .loop .field in
-    let go = c .before .before .loop-test .taken in
-    let n : hasField (mapsOf s m) f ≡ false =
-    ap (λ (x : List ℕ). hasField x f) (sym (maps-part s m)) ∙ sym (c .before .has-field .ensures) ∙ c .if1 .left in
-    noted-skip house s m (a .notes .now) (l .loop .notes) at (l .loop .written) f (l .loop .inv) go n
+    noted-skip (l .loop .inv) (passed-over (start l .args .message .now) _ _ _ (c .before .before .loop-test .taken) (c .before .has-field .ensures) (c .if1 .left))
 
 same-length-2 : tie.Need-same-length-2 Inv-loop μ-loop
 same-length-2 c = c .before .loop .inv .written .size
 
 returns-2 : tie.Need-returns-2 Inv-loop μ-loop
-returns-2 c = noted-end _ _ _ _ _ _ _ _ (c .before .loop .inv) (c .loop-test .left)
+returns-2 c = noted-end (c .before .loop .inv) (c .loop-test .left)
 
 pub write-fields-spec : {M : Type 1} → statement M
 write-fields-spec =

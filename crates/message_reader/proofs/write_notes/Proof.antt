@@ -7,7 +7,7 @@ use lib.Seq.{length-take-le}
 use Rattle.octets.specs.Lists.{lay}
 use Rattle.field_table.specs.House.{house}
 use mathlib.Core.List.{append-assoc}
-use Rattle.octets.proofs.Lists.{lay-length, placed-fits}
+use Rattle.octets.proofs.Lists.{placed-fits}
 use Rattle.octets.proofs.Parts.{lay-part, placed-part}
 use Rattle.message_notes.specs.Notes.{headNote, endNote, fieldNotes, notesOf}
 use Rattle.message_notes.proofs.Sizes.{head-long, end-long}
@@ -17,6 +17,18 @@ use borrow.Author.Needs.{needs}
 use native.Mathlib.Omega.{arith}
 use Rattle.message_reader.proofs.write_notes.Statement.{statement}
 use Rattle.message_reader.proofs.write_notes.Tie as tie
+
+-- the head is written, and then the fields; the notes stay as long as they were
+abbrev start : tie.After-put-head → tie.Start
+start c = c .before .before .before .before .before
+
+abbrev head-put : tie.After-slice-known3 → tie.After-put-head
+head-put c = c .before .before .before .before .before .before
+
+written-at : (c : tie.After-slice-known3) → c .before .before .write-fields .result ≤ 1520
+written-at c =
+    let s = start (head-put c) in
+    omega (arith, c .before .before .write-fields .ensures .0, notes-few house (s .args .message .now) (s .args .bitmaps) (s .pre .0))
 
 slice-aggregate-put-head : tie.Need-slice-aggregate-put-head
 slice-aggregate-put-head c = sym (length-take-le 4 (c .before .before .before .args .message .now) (omega arith))
@@ -37,61 +49,13 @@ write-fields-requires : tie.Need-write-fields-requires
 write-fields-requires c κs = search needs
 
 add-end : tie.Need-add-end
-add-end c =
-    let k = c in
-    let b = k .before .before .before .before .before .before in
-    let p = b .before .before .before .before .before in
-    let a = p .args in
-    let s = a .message .now in
-    let d = a .notes .now in
-    let h = headNote (take 4 s) (a .bitmaps) in
-    let n = fieldNotes (readingWith house s (a .bitmaps) .entries) in
-    let l : length h ≡ 6 = head-long (take 4 s) (a .bitmaps) ∙ omega (arith, length-take-le 4 s (omega (arith, p .pre .1 .0))) in
-    let few : length n ≤ 1520 = notes-few house s (a .bitmaps) (p .pre .0) in
-    let room : 1531 ≤ length d = p .pre .1 .1 in
-    let w = k .before .before .write-fields .ensures .0 in
-    let e1 = b .put-head .ensures ∙ placed-fits h d 6 l (omega arith) in
-    let e2 = lay-part h n d _ _ 6 e1 l (k .before .before .write-fields .ensures .1) in
-    let both : length (h ++ n) ≡ length h + length n = length-append h n in
-    omega arith
+add-end c = omega (arith, written-at c)
 
 sub-put-end : tie.Need-sub-put-end
-sub-put-end c =
-    let k = c in
-    let b = k .before .before .before .before .before .before in
-    let p = b .before .before .before .before .before in
-    let a = p .args in
-    let s = a .message .now in
-    let d = a .notes .now in
-    let h = headNote (take 4 s) (a .bitmaps) in
-    let n = fieldNotes (readingWith house s (a .bitmaps) .entries) in
-    let l : length h ≡ 6 = head-long (take 4 s) (a .bitmaps) ∙ omega (arith, length-take-le 4 s (omega (arith, p .pre .1 .0))) in
-    let few : length n ≤ 1520 = notes-few house s (a .bitmaps) (p .pre .0) in
-    let room : 1531 ≤ length d = p .pre .1 .1 in
-    let w = k .before .before .write-fields .ensures .0 in
-    let e1 = b .put-head .ensures ∙ placed-fits h d 6 l (omega arith) in
-    let e2 = lay-part h n d _ _ 6 e1 l (k .before .before .write-fields .ensures .1) in
-    let both : length (h ++ n) ≡ length h + length n = length-append h n in
-    omega (arith, ap length e2 ∙ lay-length (h ++ n) d (omega arith))
+sub-put-end c = omega (arith, written-at c, c .before .notes2 .given, c .before .before .before .before .before .notes .given, start (head-put c) .pre .1 .1)
 
 part-put-end-start : tie.Need-part-put-end-start
-part-put-end-start c =
-    let k = c in
-    let b = k .before .before .before .before .before .before in
-    let p = b .before .before .before .before .before in
-    let a = p .args in
-    let s = a .message .now in
-    let d = a .notes .now in
-    let h = headNote (take 4 s) (a .bitmaps) in
-    let n = fieldNotes (readingWith house s (a .bitmaps) .entries) in
-    let l : length h ≡ 6 = head-long (take 4 s) (a .bitmaps) ∙ omega (arith, length-take-le 4 s (omega (arith, p .pre .1 .0))) in
-    let few : length n ≤ 1520 = notes-few house s (a .bitmaps) (p .pre .0) in
-    let room : 1531 ≤ length d = p .pre .1 .1 in
-    let w = k .before .before .write-fields .ensures .0 in
-    let e1 = b .put-head .ensures ∙ placed-fits h d 6 l (omega arith) in
-    let e2 = lay-part h n d _ _ 6 e1 l (k .before .before .write-fields .ensures .1) in
-    let both : length (h ++ n) ≡ length h + length n = length-append h n in
-    omega (arith, ap length e2 ∙ lay-length (h ++ n) d (omega arith))
+part-put-end-start c = omega (arith, written-at c, c .before .notes2 .given, c .before .before .before .before .before .notes .given, start (head-put c) .pre .1 .1)
 
 part-put-end-end : tie.Need-part-put-end-end
 part-put-end-end c = search needs
@@ -105,23 +69,18 @@ same-length c = search needs
 returns : tie.Need-returns
 unfolding notesOf readingWith
 returns c =
-    let k = c .before .before .before .before in
-    let b = k .before .before .before .before .before .before in
-    let p = b .before .before .before .before .before in
-    let a = p .args in
-    let s = a .message .now in
-    let d = a .notes .now in
-    let h = headNote (take 4 s) (a .bitmaps) in
-    let n = fieldNotes (readingWith house s (a .bitmaps) .entries) in
-    let l : length h ≡ 6 = head-long (take 4 s) (a .bitmaps) ∙ omega (arith, length-take-le 4 s (omega (arith, p .pre .1 .0))) in
-    let few : length n ≤ 1520 = notes-few house s (a .bitmaps) (p .pre .0) in
-    let room : 1531 ≤ length d = p .pre .1 .1 in
-    let w = k .before .before .write-fields .ensures .0 in
-    let e1 = b .put-head .ensures ∙ placed-fits h d 6 l (omega arith) in
-    let e2 = lay-part h n d _ _ 6 e1 l (k .before .before .write-fields .ensures .1) in
-    let both : length (h ++ n) ≡ length h + length n = length-append h n in
-    let u = endNote (a .used) in
-    placed-part (h ++ n) u d _ _ _ e2 (omega arith) (omega (arith, end-long (a .used))) (c .before .before .put-end .ensures)
+    let b = c .before .before .before .before in
+    let p = start (head-put b) in
+    let s = p .args .message .now in
+    let d = p .args .notes .now in
+    let h = headNote (take 4 s) (p .args .bitmaps) in
+    let n = fieldNotes (readingWith house s (p .args .bitmaps) .entries) in
+    let u = endNote (p .args .used) in
+    let l : length h ≡ 6 = head-long (take 4 s) (p .args .bitmaps) ∙ omega (arith, length-take-le 4 s (omega (arith, p .pre .1 .0))) in
+    let w = b .before .before .write-fields .ensures .0 in
+    let e1 = head-put b .put-head .ensures ∙ placed-fits h d 6 l (omega (arith, p .pre .1 .1)) in
+    let e2 = lay-part h n d _ _ 6 e1 l (b .before .before .write-fields .ensures .1) in
+    placed-part (h ++ n) u d _ _ _ e2 (omega (arith, length-append h n)) (omega (arith, end-long (p .args .used), written-at b, p .pre .1 .1)) (c .before .before .put-end .ensures)
     ∙ ap (λ (x : List ℕ). lay x d) (append-assoc h n u)
 
 pub write-notes-spec : {M : Type 1} → statement M
