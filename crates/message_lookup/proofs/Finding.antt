@@ -20,11 +20,11 @@ use Rattle.message_walk.specs.declared.Judged.{Judged}
 use Rattle.message_walk.specs.declared.Judged.the-variants.{Passed, End, Refused as NoteRefused}
 use Rattle.message_walk.specs.declared.Walked.{Walked}
 use Rattle.message_walk.specs.declared.Walked.the-variants.{Ended, Refused as WalkRefused}
-use Rattle.message_walk.specs.Walk.{Test, any, countIn, judged, passed, Ending, bad, ends, walked, entriesIn}
-use Rattle.message_walk.specs.Answers.{answerOf, walkedBy}
+use Rattle.message_walk.specs.Walk.{any, countIn, judged, passed, Ending, bad, ends, walked, entriesIn}
+use Rattle.message_walk.specs.Answers.{walkedBy}
 use Rattle.message_walk.proofs.Steps.{Good}
-use Rattle.message_walk.proofs.Ends.{Going, going-first, going-next, note-here, any-is}
-use Rattle.message_walk.proofs.Heads.{ended-head, good-head}
+use Rattle.message_walk.proofs.Ends.{Going, going-first, going-next, note-here}
+use Rattle.message_walk.proofs.Answered.{any-refused, any-ended}
 use Rattle.message_walk.proofs.Folds.{none-refused, none-end, one-more, AllGood, all-good}
 use Rattle.message_lookup.specs.declared.Found.{Found}
 use Rattle.message_lookup.specs.declared.Found.the-variants.{At, Refused}
@@ -68,33 +68,14 @@ module _ (v n : List ℕ) (f end : ℕ) where
       finding-room = note-here any v n m at last k (c .going) o j g a z is
 
 -- the ends of `look_up`
-module _ (t : Table) (v n : List ℕ) (f : ℕ) where
-  by-ending : (e : Ending) (w : Walked) → w ≡ answerOf e → (r : Refusal) → w ≡ WalkRefused r → e ≡ bad r
-  unfolding answerOf
-  by-ending (bad q) w a r h = let z : WalkRefused q ≡ WalkRefused r = sym a ∙ h in let i : q ≡ r = cc in ap bad i
-  by-ending (ends x u) w a r h = let z : Ended x u ≡ WalkRefused r = sym a ∙ h in let y : _≡_ {A = ℕ} 0 1 = cc in absurd (omega arith)
+module _ (t : Table) (v n : List ℕ) (f : ℕ) (w : Walked) (e : w ≡ walkedBy t Any v n) where
+  pub looked-refused : (r : Refusal) → w ≡ WalkRefused r → Refused r ≡ lookedUp v n f
+  unfolding lookedUp foundBy
+  looked-refused r h = rw (lookedUp, any-refused w t v n e r h)
 
-  by-end : (e : Ending) (w : Walked) → w ≡ answerOf e → (at u : ℕ) → w ≡ Ended at u → e ≡ ends at u
-  unfolding answerOf
-  by-end (bad q) w a at u h = let z : WalkRefused q ≡ Ended at u = sym a ∙ h in let y : _≡_ {A = ℕ} 0 1 = cc in absurd (omega arith)
-  by-end (ends x y) w a at u h = let z : Ended x y ≡ Ended at u = sym a ∙ h in let i : x ≡ at = cc in let k : y ≡ u = cc in rw (i, k)
-
-  module _ (w : Walked) (e : w ≡ walkedBy t Any v n) where
-    as-any : w ≡ answerOf (walked any v n)
-    unfolding walkedBy
-    as-any = e ∙ ap (λ (p : Test). answerOf (walked p v n)) (any-is t)
-
-    pub looked-refused : (r : Refusal) → w ≡ WalkRefused r → Refused r ≡ lookedUp v n f
-    unfolding lookedUp foundBy
-    looked-refused r h = rw (lookedUp, by-ending (walked any v n) w as-any r h)
-
-    pub looked-found : (at u : ℕ) (r : Found) → w ≡ Ended at u → r ≡ foundIn f at (entriesIn any v n) → r ≡ lookedUp v n f
-    unfolding lookedUp foundBy
-    looked-found at u r h d = rw (lookedUp, by-end (walked any v n) w as-any at u h) d
-
-    -- a walk that comes to the end note has a whole head
-    pub looked-head : (at u : ℕ) → w ≡ Ended at u → headSize ≤ length n
-    looked-head at u h = good-head n (ended-head any v n at u (by-end (walked any v n) w as-any at u h)) .whole
+  pub looked-found : (at u : ℕ) (r : Found) → w ≡ Ended at u → r ≡ foundIn f at (entriesIn any v n) → r ≡ lookedUp v n f
+  unfolding lookedUp foundBy
+  looked-found at u r h d = rw (lookedUp, any-ended w t v n e at u h) d
 
 -- A content that is found lies within the values.
 found-inside : (v : List ℕ) (m f end : ℕ) (es : List Entry) → AllGood any v m es → (o z : ℕ) → foundIn f end es ≡ At o z → o + z ≤ length v

@@ -1,10 +1,12 @@
 -- What the answer of a walk says of how it ended. Assumes nothing.
-use Prim.Native.Nat.{ℕ}
+use Prim.Native.Nat.{ℕ, _≤_}
 use mathlib.Core.Path.{_≡_, refl, sym, ap, _∙_}
 use mathlib.Core.List.{List}
 use native.Mathlib.Omega.{arith}
+use lib.ListN.{length}
 use Rattle.refusal.specs.declared.Refusal.{Refusal}
 use Rattle.field_table.specs.Table.{Table}
+use Rattle.message_notes.specs.Notes.{headSize}
 use Rattle.message_walk.specs.Walk.{Test, any, Ending, bad, ends, walked}
 use Rattle.message_walk.specs.Answers.{testOf, answerOf, walkedBy}
 use Rattle.message_walk.specs.declared.Rule.{Rule}
@@ -12,6 +14,7 @@ use Rattle.message_walk.specs.declared.Rule.the-variants.{Any}
 use Rattle.message_walk.specs.declared.Walked.{Walked}
 use Rattle.message_walk.specs.declared.Walked.the-variants.{Ended, Refused}
 use Rattle.message_walk.proofs.Ends.{any-is}
+use Rattle.message_walk.proofs.Heads.{ended-head, good-head}
 
 module _ (w : Walked) where
   refused-by : (e : Ending) → w ≡ answerOf e → (r : Refusal) → w ≡ Refused r → e ≡ bad r
@@ -35,3 +38,14 @@ module _ (w : Walked) where
 
     pub walk-ended : (at u : ℕ) → w ≡ Ended at u → walked p v n ≡ ends at u
     walk-ended = ended-by (walked p v n) as-walked
+
+  -- by the rule that asks nothing; a walk that comes to the end note has a whole head
+  module _ (t : Table) (v n : List ℕ) (answered : w ≡ walkedBy t Any v n) where
+    pub any-refused : (x : Refusal) → w ≡ Refused x → walked any v n ≡ bad x
+    any-refused = walk-refused t Any any (any-is t) v n answered
+
+    pub any-ended : (at u : ℕ) → w ≡ Ended at u → walked any v n ≡ ends at u
+    any-ended = walk-ended t Any any (any-is t) v n answered
+
+    pub any-head : (at u : ℕ) → w ≡ Ended at u → headSize ≤ length n
+    any-head at u h = good-head n (ended-head any v n at u (any-ended at u h)) .whole

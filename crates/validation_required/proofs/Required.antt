@@ -17,15 +17,12 @@ use Rattle.refusal.specs.declared.Refusal.{Refusal}
 use Rattle.refusal.specs.declared.Checked.{Checked}
 use Rattle.refusal.specs.declared.Checked.the-variants.{Passed, Refused}
 use Rattle.field_table.specs.Table.{Table}
-use Rattle.message_notes.specs.Notes.{headSize}
 use Rattle.message_walk.specs.Walk.{any, mtiIn}
 use Rattle.message_walk.specs.Answers.{walkedBy}
 use Rattle.message_walk.specs.declared.Rule.the-variants.{Any}
 use Rattle.message_walk.specs.declared.Walked.{Walked}
 use Rattle.message_walk.specs.declared.Walked.the-variants.{Ended, Refused as WalkRefused}
-use Rattle.message_walk.proofs.Ends.{any-is}
-use Rattle.message_walk.proofs.Heads.{ended-head, good-head}
-use Rattle.message_walk.proofs.Answered.{walk-refused, walk-ended}
+use Rattle.message_walk.proofs.Answered.{any-refused, any-ended}
 use Rattle.message_lookup.specs.Lookup.{lookedUp}
 use Rattle.message_lookup.specs.declared.Found.{Found}
 use Rattle.message_lookup.specs.declared.Found.the-variants.{At, Refused as NotFound}
@@ -141,15 +138,12 @@ module _ (p : ℕ → Bool) (m : List ℕ) (response : Bool) (response-is : resp
     unfolding requiredOfResponse firstMissing
     all-there u = rw (← response-is, not-false response h, ← a-is, not-false a u)
 
--- The walk before: malformed notes are answered as by lookup, and a walk that comes to its end has a whole head.
+-- The walk before: malformed notes are answered as by lookup.
 module _ (t : Table) (v n : List ℕ) (w : Walked) (answered : w ≡ walkedBy t Any v n) where
   pub required-malformed : (r : Refusal) → w ≡ WalkRefused r → Refused r ≡ requiredIn v n
   unfolding requiredIn requiredAfter
-  required-malformed r h = rw (requiredIn, walk-refused w t Any any (any-is t) v n answered r h)
+  required-malformed r h = rw (requiredIn, any-refused w t v n answered r h)
 
   pub required-walked : (at u : ℕ) → w ≡ Ended at u → (f : ℕ) → f ≡ firstMissing (isPresent v n) (requiredBy (mtiIn n)) → (c : Checked) → c ≡ missingAnswer f → c ≡ requiredIn v n
   unfolding requiredIn requiredAfter
-  required-walked at u h f e c d = rw (requiredIn, walk-ended w t Any any (any-is t) v n answered at u h) (d ∙ ap missingAnswer e)
-
-  pub required-head : (at u : ℕ) → w ≡ Ended at u → headSize ≤ length n
-  required-head at u h = good-head n (ended-head any v n at u (walk-ended w t Any any (any-is t) v n answered at u h)) .whole
+  required-walked at u h f e c d = rw (requiredIn, any-ended w t v n answered at u h) (d ∙ ap missingAnswer e)

@@ -1,7 +1,8 @@
 -- The whole walk is judged, and then the field is found.
 use Prim.Native.Nat.{_-_}
 use Rattle.field_table.specs.House.{house}
-use Rattle.message_lookup.proofs.Finding.{looked-refused, looked-found, looked-head}
+use Rattle.message_walk.proofs.Answered.{any-head}
+use Rattle.message_lookup.proofs.Finding.{looked-refused, looked-found}
 use borrow.Author.Needs.{needs}
 use Rattle.message_lookup.proofs.look_up.Statement.{statement}
 use Rattle.message_lookup.proofs.look_up.Tie as tie
@@ -16,7 +17,7 @@ enum-known-at : tie.Need-enum-known-at
 enum-known-at c = search needs
 
 find-requires : tie.Need-find-requires
-find-requires c κs = looked-head house _ _ 0 _ (c .before .before .before .walk .ensures) _ _ (c .before .at .given .1)
+find-requires c κs = any-head _ house _ _ (c .before .before .before .walk .ensures) _ _ (c .before .at .given .1)
 
 returns : tie.Need-returns
 returns c = looked-refused house _ _ _ _ (c .before .before .before .walk .ensures) _ (c .before .refusal .given .1)

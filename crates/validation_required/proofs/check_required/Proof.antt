@@ -1,4 +1,5 @@
-use Rattle.validation_required.proofs.Required.{required-malformed, required-walked, required-head}
+use Rattle.message_walk.proofs.Answered.{any-head}
+use Rattle.validation_required.proofs.Required.{required-malformed, required-walked}
 use Rattle.field_table.specs.House.{house}
 use borrow.Author.Needs.{needs}
 use Rattle.validation_required.proofs.check_required.Statement.{statement}
@@ -14,7 +15,7 @@ enum-told : tie.Need-enum-told
 enum-told c = search needs
 
 first-missing-requires : tie.Need-first-missing-requires
-first-missing-requires c κs = search (required-head house, needs)
+first-missing-requires c κs = search (any-head, needs)
 
 answer-missing-requires : tie.Need-answer-missing-requires
 answer-missing-requires c κs = search needs
