@@ -29,6 +29,8 @@ use Rattle.message_walk.specs.declared.Walked.{Walked}
 use Rattle.message_walk.specs.declared.Walked.the-variants.{Ended, Refused as WalkRefused}
 use Rattle.message_walk.specs.Walk.{Test, any, headNumber, countIn, mtiIn, Ending, bad, ends, walked, entriesIn}
 use Rattle.message_walk.specs.Answers.{testOf, answerOf, walkedBy}
+use Rattle.message_walk.proofs.Heads.{ended-head, good-head}
+use Rattle.message_walk.proofs.Answered.{walk-refused, walk-ended}
 use Rattle.message_walk.proofs.Weaker.{weaker-entries}
 use Rattle.message_write.specs.Written.{numbersOf, bodyOf, bitmapsOf, messageOf, shortIn, bytesBy, answered, laidOut, answerOn, outputOn, answerBy, outputBy, paddedOn, paddedBy}
 
@@ -55,32 +57,6 @@ pub message-long : (t : Table) (v mti : List ℕ) (m : ℕ) (es : List Entry) �
 unfolding messageOf
 message-long t v mti m es four h =
     omega (arith, length-append mti (bitmapsOf m es ++ bodyOf t v es), length-append (bitmapsOf m es) (bodyOf t v es), bitmaps-long m es h)
-
--- a good head
-module _ (n : List ℕ) (good : headNumber n ≡ 0) where
-  tests : both (leb headSize (length n)) (both (eqb (getD n 0 0) headKind) (between 1 3 (getD n 5 0))) ≡ true
-  unfolding headNumber
-  tests = by-bool (both (leb headSize (length n)) (both (eqb (getD n 0 0) headKind) (between 1 3 (getD n 5 0)))) (λ y. y) (λ x. absurd (clash (rw x at good)))
-    where
-      clash : _≡_ {A = ℕ} 9 0 → ⊥
-      clash z = omega arith
-
-  pub head-whole : headSize ≤ length n
-  head-whole = leb-true headSize (length n) (both-left (leb headSize (length n)) (both (eqb (getD n 0 0) headKind) (between 1 3 (getD n 5 0))) tests)
-
-  pub count-three : countIn n ≤ 3
-  count-three = between-high 1 3 (getD n 5 0) (both-right (eqb (getD n 0 0) headKind) (between 1 3 (getD n 5 0)) (both-right (leb headSize (length n)) (both (eqb (getD n 0 0) headKind) (between 1 3 (getD n 5 0))) tests))
-
-  pub mti-four : length (mtiIn n) ≡ 4
-  mti-four = length-take-le 4 (drop 1 n) (omega (arith, length-drop 1 n, head-whole))
-
--- a walk that comes to the end note
-pub walked-head : (p : Test) (v n : List ℕ) (x u : ℕ) → walked p v n ≡ ends x u → headNumber n ≡ 0
-unfolding walked
-walked-head p v n x u e = by-eq (headNumber n) 0 (λ z. z) (λ z. absurd (clash (rw (ne-eqb (headNumber n) 0 z) at e)))
-  where
-    clash : bad (plain (headNumber n)) ≡ ends x u → ⊥
-    clash h = let z : _≡_ {A = ℕ} 0 1 = cc in omega arith
 
 -- `write_ended`
 module _ (at u : ℕ) (bytes d : List ℕ) (k : ℕ) (sized : length bytes ≡ k) where
@@ -114,34 +90,20 @@ module _ (t : Table) (r : Rule) (v n d : List ℕ) (w : Walked) (e : w ≡ walke
   abbrev p : Test
   p = testOf t r
 
-  by-bad : (x : Ending) → w ≡ answerOf x → (q : Refusal) → w ≡ WalkRefused q → x ≡ bad q
-  unfolding answerOf
-  by-bad (bad y) a q h = let z : WalkRefused y ≡ WalkRefused q = sym a ∙ h in let i : y ≡ q = cc in ap bad i
-  by-bad (ends y u) a q h = let z : Ended y u ≡ WalkRefused q = sym a ∙ h in let i : _≡_ {A = ℕ} 0 1 = cc in absurd (omega arith)
-
-  by-ends : (x : Ending) → w ≡ answerOf x → (at u : ℕ) → w ≡ Ended at u → x ≡ ends at u
-  unfolding answerOf
-  by-ends (bad y) a at u h = let z : WalkRefused y ≡ Ended at u = sym a ∙ h in let i : _≡_ {A = ℕ} 0 1 = cc in absurd (omega arith)
-  by-ends (ends x y) a at u h = let z : Ended x y ≡ Ended at u = sym a ∙ h in let i : x ≡ at = cc in let k : y ≡ u = cc in rw (i, k)
-
-  as-walked : w ≡ answerOf (walked p v n)
-  unfolding walkedBy
-  as-walked = e
-
   pub by-refused : (q : Refusal) → w ≡ WalkRefused q → Refused q ≡ answerBy p t v n d
   unfolding answerBy answerOn
-  by-refused q h = rw (answerBy, by-bad (walked p v n) as-walked q h)
+  by-refused q h = rw (answerBy, walk-refused w t r p refl v n e q h)
 
   pub refused-left : (q : Refusal) → w ≡ WalkRefused q → d ≡ outputBy p t v n d
   unfolding outputBy outputOn
-  refused-left q h = rw (outputBy, by-bad (walked p v n) as-walked q h)
+  refused-left q h = rw (outputBy, walk-refused w t r p refl v n e q h)
 
   module _ (weaker : (f : ℕ) (c : List ℕ) → p f c ≡ 0 → testOf t Clean f c ≡ 0) (at u : ℕ) (h : w ≡ Ended at u) where
     pub is-ended : walked p v n ≡ ends at u
-    is-ended = by-ends (walked p v n) as-walked at u h
+    is-ended = walk-ended w t r p refl v n e at u h
 
     pub by-head : headNumber n ≡ 0
-    by-head = walked-head p v n at u is-ended
+    by-head = ended-head p v n at u is-ended
 
     clean-entries : entriesIn (testOf t Clean) v n ≡ entriesIn p v n
     clean-entries = weaker-entries p (testOf t Clean) weaker v n at u is-ended
@@ -200,8 +162,8 @@ module _ (t : Table) (v n d : List ℕ) (asked : Asked t v n d) where
 
   pub asked-room : (m ≤ 3) × (4 + 8 * m + length (bodyOf t v es) ≤ length d)
   asked-room =
-      let three = count-three n (asked .head) in
-      (three, omega (arith, message-long t v (mtiIn n) m es (mti-four n (asked .head)) three, asked .room))
+      let three = good-head n (asked .head) .most in
+      (three, omega (arith, message-long t v (mtiIn n) m es (good-head n (asked .head) .four) three, asked .room))
 
   -- the count is k, and maps are the bitmaps made for the set bits
   module _ (k : ℕ) (counted : k ≡ m) (maps bits : List ℕ) (made : maps ≡ mapsFor (min k 3) bits) (set : bits ≡ setOf (numbersOf (entriesIn any v n))) where
@@ -221,7 +183,7 @@ module _ (t : Table) (v n d : List ℕ) (asked : Asked t v n d) where
         putMid (4 + 8 * k) (length (putMid 4 (length e - 4) e f) - (4 + 8 * k)) (putMid 4 (length e - 4) e f) g ≡ lay (messageOf t v (mtiIn n) m es) d
     unfolding messageOf
     message-written e f g he hf hg =
-        let four = mti-four n (asked .head) in
+        let four = good-head n (asked .head) .four in
         let long = bitmaps-long m es (asked-room .0) in
         let mti : e ≡ lay (mtiIn n) d = he ∙ placed-fits (mtiIn n) d 4 four (omega (arith, asked-room)) in
         let front : putMid 4 (length e - 4) e f ≡ lay (mtiIn n ++ bitmapsOf m es) d =

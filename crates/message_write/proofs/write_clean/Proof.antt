@@ -2,7 +2,8 @@
 use mathlib.Core.Path.{sym, _∙_}
 use Prim.Native.Nat.{_-_}
 use Rattle.field_table.specs.House.{house}
-use Rattle.message_write.proofs.Answering.{head-whole, walked-head, written-ended, padded-refused, padded-written}
+use Rattle.message_walk.proofs.Heads.{ended-head, good-head}
+use Rattle.message_write.proofs.Answering.{written-ended, padded-refused, padded-written}
 use borrow.Author.Needs.{needs}
 use Rattle.message_write.proofs.write_clean.Statement.{statement}
 use Rattle.message_write.proofs.write_clean.Tie as tie
@@ -23,7 +24,7 @@ padded-in-requires : tie.Need-padded-in-requires
 padded-in-requires c κs =
     let b = c .before .before .before .before .write-by .ensures .0 in
     let e = written-ended _ house _ _ _ _ (sym b ∙ c .enum-told2 .given .1) in
-    head-whole _ (walked-head _ _ _ _ _ (e .1 .1))
+    good-head _ (ended-head _ _ _ _ _ (e .1 .1)) .whole
 
 same-length : tie.Need-same-length
 same-length c = search needs

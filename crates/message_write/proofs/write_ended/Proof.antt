@@ -8,7 +8,8 @@ use Rattle.message_walk.specs.declared.Rule.the-variants.{Clean}
 use Rattle.message_walk.specs.Walk.{countIn, mtiIn, entriesIn}
 use Rattle.message_walk.specs.Answers.{testOf}
 use Rattle.message_write.specs.Written.{messageOf}
-use Rattle.message_write.proofs.Answering.{message-long, head-whole, count-three, mti-four, ended-differs, differs-left, ended-short, short-left, ended-written, written-laid}
+use Rattle.message_walk.proofs.Heads.{good-head}
+use Rattle.message_write.proofs.Answering.{message-long, ended-differs, differs-left, ended-short, short-left, ended-written, written-laid}
 use borrow.Author.Needs.{needs}
 use native.Mathlib.Omega.{arith}
 use Rattle.message_write.proofs.write_ended.Statement.{statement}
@@ -18,7 +19,7 @@ abbrev start : tie.After-count-in → tie.Start
 start c = c .before .before .before .before
 
 three-at : (c : tie.After-count-in) → c .count-in .result ≤ 3
-three-at c = omega (arith, c .count-in .ensures, count-three _ (start c .pre .0))
+three-at c = omega (arith, c .count-in .ensures, good-head _ (start c .pre .0) .most)
 
 -- the length that was measured is the message's
 abbrev message : tie.After-count-in → List ℕ
@@ -29,7 +30,7 @@ message c =
 sized-at : (c : tie.After-measure) → length (message (c .before)) ≡ 4 + 8 * (c .before .count-in .result) + c .measure .result
 sized-at c =
     let good = start (c .before) .pre .0 in
-    message-long house _ _ _ _ (mti-four _ good) (count-three _ good) ∙ omega (arith, c .before .count-in .ensures, c .measure .ensures .0)
+    message-long house _ _ _ _ (good-head _ good .four) (good-head _ good .most) ∙ omega (arith, c .before .count-in .ensures, c .measure .ensures .0)
 
 count-in-requires : tie.Need-count-in-requires
 count-in-requires c κs = search needs
@@ -41,7 +42,7 @@ add-length : tie.Need-add-length
 add-length c = omega (arith, three-at c)
 
 measure-requires : tie.Need-measure-requires
-measure-requires c κs = head-whole _ (start c .pre .0)
+measure-requires c κs = good-head _ (start c .pre .0) .whole
 
 add-length-2 : tie.Need-add-length-2
 add-length-2 c = omega (arith, three-at (c .before), c .measure .ensures .1)

@@ -8,7 +8,8 @@ use Rattle.message_walk.specs.declared.Rule.the-variants.{Clean}
 use Rattle.message_walk.specs.Walk.{entriesIn}
 use Rattle.message_walk.specs.Answers.{testOf}
 use Rattle.message_write.specs.Written.{bodyOf}
-use Rattle.message_write.proofs.Answering.{Asked, head-whole, made-long, asked-room, message-written}
+use Rattle.message_walk.proofs.Heads.{good-head}
+use Rattle.message_write.proofs.Answering.{Asked, made-long, asked-room, message-written}
 use borrow.Author.Needs.{needs}
 use native.Mathlib.Omega.{arith}
 use Rattle.message_write.proofs.write_message.Statement.{statement}
@@ -43,7 +44,7 @@ count-in-requires : tie.Need-count-in-requires
 count-in-requires c κs = search needs
 
 fields-in-requires : tie.Need-fields-in-requires
-fields-in-requires c κs = head-whole _ (c .before .before .before .before .pre .0)
+fields-in-requires c κs = good-head _ (c .before .before .before .before .pre .0) .whole
 
 of-requires : tie.Need-of-requires
 of-requires c κs = search needs
@@ -64,7 +65,7 @@ part-put-start : tie.Need-part-put-start
 part-put-start c = search needs
 
 part-put-end : tie.Need-part-put-end
-part-put-end c = omega (arith, head-whole _ (start c .pre .0))
+part-put-end c = omega (arith, good-head _ (start c .pre .0) .whole)
 
 put-requires : tie.Need-put-requires
 put-requires c κs = search needs
@@ -104,7 +105,7 @@ part-write-body-end c = search needs
 write-body-requires : tie.Need-write-body-requires
 write-body-requires c κs =
     let k = headed (c .before) in
-    (head-whole _ (start (begun k) .pre .0), omega (arith, room-at (begun k), size-at k, c .before .before .out2 .given, c .write-body-arg .given .1))
+    (good-head _ (start (begun k) .pre .0) .whole, omega (arith, room-at (begun k), size-at k, c .before .before .out2 .given, c .write-body-arg .given .1))
 
 same-length : tie.Need-same-length
 same-length c = search needs
