@@ -1,0 +1,38 @@
+-- One arm for each encoding, and 25 where there is none (Encodings).
+use Rattle.desk.proofs.Encodings.{decoded-ascii, decoded-bcd, decoded-ebcdic, decoded-none}
+use borrow.Author.Needs.{needs}
+use Rattle.desk.proofs.decode_length.Statement.{statement}
+use Rattle.desk.proofs.decode_length.Tie as tie
+
+decode-requires : tie.Need-decode-requires
+decode-requires c κs = search needs
+
+decode-requires-2 : tie.Need-decode-requires-2
+decode-requires-2 c κs = search needs
+
+decode-requires-3 : tie.Need-decode-requires-3
+decode-requires-3 c κs = search needs
+
+returns : tie.Need-returns
+returns c = decoded-ascii _ _ _ _ (c .before .match .keys1) (c .decode .ensures)
+
+returns-2 : tie.Need-returns-2
+returns-2 c = decoded-bcd _ _ _ _ (c .before .match .keys2) (c .decode2 .ensures)
+
+returns-3 : tie.Need-returns-3
+returns-3 c = decoded-ebcdic _ _ _ _ (c .before .match .keys3) (c .decode3 .ensures)
+
+returns-4 : tie.Need-returns-4
+returns-4 c = decoded-none _ _ _ (c .match .rest .0 .0 .1) (c .match .rest .0 .1) (c .match .rest .1)
+
+pub decode-length-spec : {M : Type 1} → statement M
+decode-length-spec =
+    tie.close
+    (tie.spec
+    decode-requires
+    decode-requires-2
+    decode-requires-3
+    returns
+    returns-2
+    returns-3
+    returns-4)

@@ -1,0 +1,50 @@
+-- One arm for each encoding, and 25 where there is none (Encodings).
+use Rattle.desk.proofs.Encodings.{encoded-ascii, encoded-bcd, encoded-ebcdic, encoded-none}
+use borrow.Author.Needs.{needs}
+use Rattle.desk.proofs.encode_length.Statement.{statement}
+use Rattle.desk.proofs.encode_length.Tie as tie
+
+encode-requires : tie.Need-encode-requires
+encode-requires c κs = search needs
+
+encode-requires-2 : tie.Need-encode-requires-2
+encode-requires-2 c κs = search needs
+
+encode-requires-3 : tie.Need-encode-requires-3
+encode-requires-3 c κs = search needs
+
+same-length : tie.Need-same-length
+same-length c = search needs
+
+returns : tie.Need-returns
+returns c = encoded-ascii _ _ _ _ _ _ (c .before .before .before .before .match .keys1) (c .before .before .encode .ensures)
+
+same-length-2 : tie.Need-same-length-2
+same-length-2 c = search needs
+
+returns-2 : tie.Need-returns-2
+returns-2 c = encoded-bcd _ _ _ _ _ _ (c .before .before .before .before .match .keys2) (c .before .before .encode2 .ensures)
+
+same-length-3 : tie.Need-same-length-3
+same-length-3 c = search needs
+
+returns-3 : tie.Need-returns-3
+returns-3 c = encoded-ebcdic _ _ _ _ _ _ (c .before .before .before .before .match .keys3) (c .before .before .encode3 .ensures)
+
+returns-4 : tie.Need-returns-4
+returns-4 c = encoded-none _ _ _ _ (c .match .rest .0 .0 .1) (c .match .rest .0 .1) (c .match .rest .1)
+
+pub encode-length-spec : {M : Type 1} → statement M
+encode-length-spec =
+    tie.close
+    (tie.spec
+    encode-requires
+    encode-requires-2
+    encode-requires-3
+    same-length
+    returns
+    same-length-2
+    returns-2
+    same-length-3
+    returns-3
+    returns-4)
