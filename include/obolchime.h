@@ -92,6 +92,10 @@ struct obol_measured {
     uint64_t value; /* the length that was decoded */
 };
 
+struct obol_checked {
+    uint64_t number, field, position;
+};
+
 /*
  * Reads the message at the front of the input and writes its notes, up to their end note, to the front of notes.
  * Refuses with 1, 2, 3, 4, then field by field 5, 6, 7, 5, 8. The position of 5 to 8 is the field's first byte.
@@ -117,6 +121,18 @@ struct obol_cleaned obol_write_clean(const uint8_t *values, size_t values_length
  * end note's.
  */
 struct obol_found obol_look_up(const uint8_t *values, size_t values_length, const uint8_t *notes, size_t notes_length, size_t number);
+
+/*
+ * Whether a content is a PAN: of the digits in it, whatever stands between them, there are 13 to 19 and Luhn's sum is a multiple of
+ * 10. Else 17, with field 0.
+ */
+struct obol_checked obol_check_pan(const uint8_t *content, size_t content_length);
+
+/* Whether a content is a date MMDD: four digits, month 1 to 12, day 1 to 31. Else 20, with field 0. */
+struct obol_checked obol_check_date(const uint8_t *content, size_t content_length);
+
+/* Whether a content is a time hhmmss: six digits, 0 to 23, 0 to 59, 0 to 59. Else 20, with field 0. */
+struct obol_checked obol_check_time(const uint8_t *content, size_t content_length);
 
 /* ASCII digits to BCD, with a leading 0 where their count is odd. Refuses with 21, 14. */
 struct obol_written obol_bcd_encode(const uint8_t *source, size_t source_length, uint8_t *out, size_t out_length);

@@ -5,6 +5,7 @@
 --   cleaned t s           == what a cleaning told that padded the set of fields s
 --   found t               == what a lookup told
 --   measurement t         == what the decoding of a length told
+--   judgement t           == what a check told
 --   wordAt s i            == the eight bytes of s from i on, as one number, the first the highest
 --   encodingOf e A B C D  == A, B, C for the numbers of the encodings ASCII, BCD, EBCDIC; D for a number that is none
 --   encodedBy e w n out   == the answer of writing the length n in w digits in the encoding of the number e
@@ -32,6 +33,7 @@ use Rattle.desk.specs.declared.Written.{Written}
 use Rattle.desk.specs.declared.Cleaned.{Cleaned}
 use Rattle.desk.specs.declared.Found.{Found}
 use Rattle.desk.specs.declared.Measurement.{Measurement}
+use Rattle.desk.specs.declared.Judgement.{Judgement}
 
 unfoldable pub reading : Told → Reading
 reading t =
@@ -86,6 +88,9 @@ measurement t =
       position = t .refused .position;
       value = getD (t .values) 0 0;
     }
+
+unfoldable pub judgement : Told → Judgement
+judgement t = record { number = t .refused .number; field = t .refused .field; position = t .refused .position }
 
 -- An encoding is a number here, and 01 has none for a wrong one: 25, before every other test.
 abbrev pub encodingOf : {A : Type 0} → ℕ → A → A → A → A → A

@@ -4,6 +4,7 @@ use bitmap::FieldSet;
 use encoding_length::Encoding;
 use encoding_length::Measured;
 use message_reader::ReadAnswer;
+use refusal::Checked;
 use refusal::Output;
 use refusal::Refusal;
 ghost use mathlib.Core.Path.{_≡_};
@@ -11,7 +12,7 @@ ghost use mathlib.Core.List.{map};
 ghost use Prim.Native.Nat.{_≤_};
 ghost use lib.ListN.{length};
 ghost use Rattle.octets.specs.Numbers.{bigEndianOf};
-ghost use Rattle.refusal.specs.Refusals.{converted, convertedInto, told};
+ghost use Rattle.refusal.specs.Refusals.{converted, convertedInto, told, checked, toldChecked};
 ghost use Rattle.encoding_bcd.specs.Bcd.{packed, unpacked, encodeFault as bcdEncodeFault, decodeFault as bcdDecodeFault};
 ghost use Rattle.encoding_ebcdic.specs.Ebcdic.{asciiOf, ebcdicOf, encodeFault as ebcdicEncodeFault, decodeFault as ebcdicDecodeFault};
 ghost use Rattle.encoding_length.specs.Lengths.{toldLength};
@@ -21,7 +22,9 @@ ghost use Rattle.message_walk.specs.Answers.{testOf};
 ghost use Rattle.message_walk.specs.declared.Rule.the-variants.{Exact, Clean};
 ghost use Rattle.message_lookup.specs.Lookup.{toldFound, lookedUp};
 ghost use Rattle.message_write.specs.Written.{answerBy, outputBy, paddedBy};
-ghost use Rattle.desk.specs.Desk.{reading, written, cleaned, found, measurement, encodedBy, encodedInto, decodedBy};
+ghost use Rattle.validation_pan.specs.Pan.{panFault};
+ghost use Rattle.validation_dates.specs.Dates.{dateFault, timeFault};
+ghost use Rattle.desk.specs.Desk.{reading, written, cleaned, found, measurement, judgement, encodedBy, encodedInto, decodedBy};
 
 // What reading tells: the bytes used and the count of bitmaps.
 #[repr(C)]
@@ -74,6 +77,14 @@ pub struct Measurement {
     pub value: u64,
 }
 
+// What a check tells.
+#[repr(C)]
+pub struct Judgement {
+    pub number: u64,
+    pub field: u64,
+    pub position: u64,
+}
+
 #[no_mangle]
 pub extern "C" fn obol_read(message: &[u8], notes: &mut [u8]) -> Reading
     ensures answers { λ r. ⌜ r ≡ reading (toldRead (readAnswer house (now (message .entry)) (now (notes .entry)))) ⌝ }
@@ -106,6 +117,27 @@ pub extern "C" fn obol_look_up(values: &[u8], notes: &[u8], number: usize) -> Fo
     ensures { λ r. ⌜ r ≡ found (toldFound (lookedUp (now (values .entry)) (now (notes .entry)) number)) ⌝ }
 {
     tell_found(message_lookup::look_up(values, notes, number))
+}
+
+#[no_mangle]
+pub extern "C" fn obol_check_pan(content: &[u8]) -> Judgement
+    ensures { λ r. ⌜ r ≡ judgement (toldChecked (checked (panFault (now (content .entry))) 0)) ⌝ }
+{
+    tell_checked(validation_pan::check_pan(content))
+}
+
+#[no_mangle]
+pub extern "C" fn obol_check_date(content: &[u8]) -> Judgement
+    ensures { λ r. ⌜ r ≡ judgement (toldChecked (checked (dateFault (now (content .entry))) 0)) ⌝ }
+{
+    tell_checked(validation_dates::check_date(content))
+}
+
+#[no_mangle]
+pub extern "C" fn obol_check_time(content: &[u8]) -> Judgement
+    ensures { λ r. ⌜ r ≡ judgement (toldChecked (checked (timeFault (now (content .entry))) 0)) ⌝ }
+{
+    tell_checked(validation_dates::check_time(content))
 }
 
 #[no_mangle]
@@ -282,6 +314,23 @@ fn tell_measured(answer: Measured) -> Measurement
             field: why.field as u64,
             position: why.position as u64,
             value: 0,
+        },
+    }
+}
+
+fn tell_checked(answer: Checked) -> Judgement
+    ensures { λ r. ⌜ r ≡ judgement (toldChecked answer) ⌝ }
+{
+    match answer {
+        Checked::Passed => Judgement {
+            number: 0,
+            field: 0,
+            position: 0,
+        },
+        Checked::Refused(why) => Judgement {
+            number: why.number as u64,
+            field: why.field as u64,
+            position: why.position as u64,
         },
     }
 }
