@@ -1,0 +1,41 @@
+//! ISO 8583:1987 messages: a safe binding of Obolchime, whose routines are written in Rattle and proved to answer exactly what their
+//! definitions say, on every input.
+//!
+//! ```
+//! let bytes = b"0800\x20\0\0\0\0\0\0\0000000 and what comes after it";
+//! let message = obolchime::read(bytes)?;
+//! assert_eq!(message.mti(), "0800");
+//! assert_eq!(message.get(3), Some(&b"000000"[..]));
+//! assert_eq!(message.used(), 18);
+//! # Ok::<(), obolchime::Refusal>(())
+//! ```
+//!
+//! | to | call |
+//! |---|---|
+//! | read a message, and see its fields | [`read`], [`Message`] |
+//! | write it back to the byte, or with short fixed contents padded | [`write_exact`], [`write_clean`], with [`Notes`] |
+//! | find a field by notes that come from elsewhere | [`look_up`] |
+//! | check a field, a message, a PAN, a date, a time | [`check`] |
+//! | convert BCD, EBCDIC, length indicators | [`bcd`], [`ebcdic`], [`length`] |
+//!
+//! A call that refuses says why in a [`Refusal`]: a number, a field and a position, and prints as plain words. It changes no buffer.
+//!
+//! The static library is built by `bridge/build`, or by `rt staticlib desk`, at the root of the repository; `OBOLCHIME_LIB_DIR` names
+//! another folder that holds it. What is proved is the library. This crate is thin Rust over it: the calls are in one small module, and
+//! the walk over the notes in [`Message::fields`] and the making of them by [`Notes`] are plain safe Rust.
+
+#![deny(missing_docs, unsafe_code)]
+
+mod ffi;
+mod message;
+mod notes;
+mod refusal;
+
+pub mod bcd;
+pub mod check;
+pub mod ebcdic;
+pub mod length;
+
+pub use message::{read, Field, Fields, Message};
+pub use notes::{look_up, write_clean, write_exact, Cleaned, FieldSet, Notes, NOTES_ROOM};
+pub use refusal::{number, Refusal, Within};

@@ -1,0 +1,68 @@
+//! What refusals say, and that they leave the buffers alone.
+
+use obolchime::length::{self, Encoding};
+use obolchime::{bcd, ebcdic, look_up, number, read, write_clean, write_exact, Notes, Refusal, Within};
+
+fn words(answer: Result<impl std::fmt::Debug, Refusal>) -> String {
+    answer.expect_err("this is refused").to_string()
+}
+
+#[test]
+fn reading() {
+    let one = |body: &[u8]| [b"0800\x40\0\0\0\0\0\0\0", body].concat();
+    assert_eq!(words(read(b"")), "message under 12 bytes (2)");
+    assert_eq!(words(read(b"08x0\0\0\0\0\0\0\0\0")), "MTI has a non-digit (3) at byte 2");
+    assert_eq!(words(read(b"x800\0\0\0\0\0\0\0\0")), "MTI has a non-digit (3) at byte 0");
+    assert_eq!(words(read(b"0800\x80\0\0\0\0\0\0\0")), "second or third bitmap incomplete (4) at byte 12");
+    assert_eq!(words(read(&one(b"1"))), "field 2: length digits or content run past the end (5) at byte 12");
+    assert_eq!(words(read(&one(b"1x"))), "field 2: a length byte is not 0-9 (6) at byte 12");
+    assert_eq!(words(read(&one(b"20"))), "field 2: length over the table's (7) at byte 12");
+    assert_eq!(words(read(&one(b"01\x80"))), "field 2: text byte over 0x7F (8) at byte 12");
+    assert_eq!(read(b"").unwrap_err().within(), Within::Nothing);
+    assert_eq!(read(&one(b"1")).unwrap_err().within(), Within::Message);
+}
+
+#[test]
+fn writing() {
+    let head = || Notes::new(*b"0200", 1);
+    let mut out = [0xA5; 64];
+    let mut exact = |values: &[u8], notes: &[u8]| {
+        let answer = write_exact(values, notes, &mut out);
+        assert_eq!(out, [0xA5; 64]);
+        words(answer)
+    };
+    assert_eq!(exact(b"", b""), "note missing, cut or of the wrong kind, or count of bitmaps not 1-3 (9) at byte 0 of the notes");
+    assert_eq!(exact(b"", &Notes::new(*b"020x", 1).end(12)), "MTI has a non-digit (3) at byte 0 of the notes");
+    assert_eq!(exact(b"", &head().field(0, 0, 0).end(12)), "field 0: field number not allowed here (10) at byte 6 of the notes");
+    assert_eq!(exact(b"", &head().field(65, 0, 0).end(12)), "field 65: field number not allowed here (10) at byte 6 of the notes");
+    assert_eq!(exact(b"12345", &head().field(3, 0, 6).end(18)), "field 3: content outside the values (11) at byte 6 of the notes");
+    assert_eq!(exact(b"12345", &head().field(3, 0, 5).end(18)), "field 3: length not allowed (12) at byte 6 of the notes");
+    assert_eq!(exact(b"\x80", &head().field(2, 0, 1).end(15)), "field 2: text byte over 0x7F (8) at byte 6 of the notes");
+    assert_eq!(exact(b"1", &head().field(2, 0, 1).end(16)), "end note differs from the length to be written (13) at byte 14 of the notes");
+    let notes = head().field(2, 0, 1).end(15);
+    assert_eq!(words(write_exact(b"1", &notes, &mut [0; 14])), "output too short (14) at byte 14 of the notes");
+    assert_eq!(words(write_clean(b"1", &notes, &mut [0; 14])), "output too short (14) at byte 14 of the notes");
+    let long = head().field(3, 0, 7).end(19);
+    assert_eq!(words(write_clean(b"1234567", &long, &mut [0; 19])), "field 3: length not allowed (12) at byte 6 of the notes");
+    assert_eq!(words(look_up(b"1", &notes, 3)), "field 3: field absent (15) at byte 14 of the notes");
+    assert_eq!(words(look_up(b"1", &notes, usize::MAX)), format!("field {}: field absent (15) at byte 14 of the notes", usize::MAX));
+}
+
+#[test]
+fn converting() {
+    assert_eq!(words(bcd::encode(b"1x")), "BCD source not digits (21)");
+    assert_eq!(words(bcd::decode(&[0x1A], 2)), "BCD half-byte over 9, or spare leading digit not 0 (22)");
+    assert_eq!(words(bcd::decode(&[0x11], 1)), "BCD half-byte over 9, or spare leading digit not 0 (22)");
+    assert_eq!(words(bcd::decode(&[0x12], usize::MAX)), "byte count wrong for the digits asked (23)");
+    assert_eq!(words(ebcdic::encode(&[0x80])), "byte has no ASCII meaning (24)");
+    assert_eq!(words(length::encode(100, 2, Encoding::Bcd)), "length needs more digits than given, or these are not 2 or 3 (25)");
+    assert_eq!(words(length::encode(1, 4, Encoding::Ascii)), "length needs more digits than given, or these are not 2 or 3 (25)");
+    assert_eq!(words(length::decode(b"12", 3, Encoding::Ebcdic)), "byte count wrong for the digits asked (23)");
+    let mut out = [0xA5; 2];
+    assert_eq!(bcd::encode_into(b"12345", &mut out).unwrap_err().number(), number::OUTPUT_TOO_SHORT);
+    assert_eq!(bcd::decode_into(&[0x01, 0x23], 3, &mut out).unwrap_err().number(), number::OUTPUT_TOO_SHORT);
+    assert_eq!(ebcdic::encode_into(b"ABC", &mut out).unwrap_err().number(), number::OUTPUT_TOO_SHORT);
+    assert_eq!(ebcdic::decode_into(&[0xC1; 3], &mut out).unwrap_err().number(), number::OUTPUT_TOO_SHORT);
+    assert_eq!(length::encode_into(1, 3, Encoding::Ascii, &mut out).unwrap_err().number(), number::OUTPUT_TOO_SHORT);
+    assert_eq!(out, [0xA5; 2]);
+}
