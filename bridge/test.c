@@ -219,6 +219,19 @@ static void converting(void) {
 }
 
 static void checking(void) {
+    EXPECT(ACCEPTED(obol_check_field(4, (const uint8_t *)"000000012345", 12)));
+    EXPECT(REFUSED(obol_check_field(4, (const uint8_t *)"000000000000", 12), OBOL_AMOUNT_ZERO, 4, 0));
+    EXPECT(REFUSED(obol_check_field(4, (const uint8_t *)"00000001234x", 12), OBOL_CLASS_BROKEN, 4, 0));
+    EXPECT(REFUSED(obol_check_field(4, (const uint8_t *)"00000001234", 11), OBOL_LENGTH_NOT_ALLOWED, 4, 0));
+    EXPECT(REFUSED(obol_check_field(2, (const uint8_t *)"4111111111111112", 16), OBOL_PAN_FAILS, 2, 0));
+    EXPECT(REFUSED(obol_check_field(321, NULL, 0), OBOL_NUMBER_NOT_ALLOWED, 321, 0));
+
+    static const uint8_t notes_bytes[] = {1, '0', '8', '0', '0', 1, 2, 3, 0, 0, 0, 0, 0, 6, 4, 0, 0, 0, 18};
+    uint8_t *values = guarded_copy("000000", 6);
+    uint8_t *notes = guarded_copy(notes_bytes, sizeof notes_bytes);
+    EXPECT(REFUSED(obol_check_required(values, 6, notes, sizeof notes_bytes), OBOL_REQUIRED_MISSING, 11, 0));
+    EXPECT(REFUSED(obol_check_required(values, 5, notes, sizeof notes_bytes), OBOL_OUTSIDE_VALUES, 3, 6));
+
     EXPECT(ACCEPTED(obol_check_pan((const uint8_t *)"4111111111111111", 16)));
     EXPECT(REFUSED(obol_check_pan((const uint8_t *)"4111111111111112", 16), OBOL_PAN_FAILS, 0, 0));
     EXPECT(ACCEPTED(obol_check_date((const uint8_t *)"1231", 4)));
@@ -235,6 +248,9 @@ static void nothing(void) {
     EXPECT(REFUSED(obol_write_exact(NULL, 0, NULL, 0, NULL, 0), OBOL_NOTE_MALFORMED, 0, 0));
     EXPECT(REFUSED(obol_write_clean(NULL, 0, NULL, 0, NULL, 0), OBOL_NOTE_MALFORMED, 0, 0));
     EXPECT(REFUSED(obol_look_up(NULL, 0, NULL, 0, 0), OBOL_NOTE_MALFORMED, 0, 0));
+    EXPECT(REFUSED(obol_check_field(2, NULL, 0), OBOL_PAN_FAILS, 2, 0));
+    EXPECT(ACCEPTED(obol_check_field(48, NULL, 0)));
+    EXPECT(REFUSED(obol_check_required(NULL, 0, NULL, 0), OBOL_NOTE_MALFORMED, 0, 0));
     EXPECT(REFUSED(obol_check_pan(NULL, 0), OBOL_PAN_FAILS, 0, 0));
     EXPECT(REFUSED(obol_check_date(NULL, 0), OBOL_DATE_OR_TIME_WRONG, 0, 0));
     EXPECT(REFUSED(obol_check_time(NULL, 0), OBOL_DATE_OR_TIME_WRONG, 0, 0));

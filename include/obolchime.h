@@ -123,6 +123,19 @@ struct obol_cleaned obol_write_clean(const uint8_t *values, size_t values_length
 struct obol_found obol_look_up(const uint8_t *values, size_t values_length, const uint8_t *notes, size_t notes_length, size_t number);
 
 /*
+ * Whether a content may stand in a field: its number (10), its class (16), its length (12); then the PAN for field 2 (17), and no
+ * amount of zeros for 4 and 5 (18). Positions are 0.
+ */
+struct obol_checked obol_check_field(size_t number, const uint8_t *content, size_t content_length);
+
+/*
+ * Whether the notes name every field that their MTI requires: 3, 11, 12, 13; then 2 and 4 where its second digit is 1 or 2 and its
+ * third 0; then 39 where its third is 1. Else 19 with the first field that is missing, at position 0. Wrong notes are refused as by
+ * obol_look_up.
+ */
+struct obol_checked obol_check_required(const uint8_t *values, size_t values_length, const uint8_t *notes, size_t notes_length);
+
+/*
  * Whether a content is a PAN: of the digits in it, whatever stands between them, there are 13 to 19 and Luhn's sum is a multiple of
  * 10. Else 17, with field 0.
  */

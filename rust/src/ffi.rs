@@ -77,6 +77,8 @@ extern "C" {
         out_length: usize,
     ) -> Cleaned;
     fn obol_look_up(values: *const u8, values_length: usize, notes: *const u8, notes_length: usize, number: usize) -> Found;
+    fn obol_check_field(number: usize, content: *const u8, content_length: usize) -> Checked;
+    fn obol_check_required(values: *const u8, values_length: usize, notes: *const u8, notes_length: usize) -> Checked;
     fn obol_check_pan(content: *const u8, content_length: usize) -> Checked;
     fn obol_check_date(content: *const u8, content_length: usize) -> Checked;
     fn obol_check_time(content: *const u8, content_length: usize) -> Checked;
@@ -106,6 +108,16 @@ pub fn write_clean(values: &[u8], notes: &[u8], out: &mut [u8]) -> Cleaned {
 pub fn look_up(values: &[u8], notes: &[u8], number: usize) -> Found {
     // SAFETY: both are slices, and only read; any number is taken.
     unsafe { obol_look_up(values.as_ptr(), values.len(), notes.as_ptr(), notes.len(), number) }
+}
+
+pub fn check_field(number: usize, content: &[u8]) -> Checked {
+    // SAFETY: a slice that is only read; any number is taken.
+    unsafe { obol_check_field(number, content.as_ptr(), content.len()) }
+}
+
+pub fn check_required(values: &[u8], notes: &[u8]) -> Checked {
+    // SAFETY: both are slices, and only read.
+    unsafe { obol_check_required(values.as_ptr(), values.len(), notes.as_ptr(), notes.len()) }
 }
 
 pub fn check_pan(content: &[u8]) -> Checked {

@@ -1,7 +1,7 @@
 //! Reading.
 
 use crate::notes::{look_up, write_exact, END_SIZE, FIELD_SIZE, HEAD_SIZE, NOTES_ROOM};
-use crate::{ffi, Refusal, Within};
+use crate::{check, ffi, Refusal, Within};
 use std::fmt;
 
 /// A message that was read. It keeps the bytes that it was read from, unchanged, and notes of where each content is.
@@ -98,6 +98,19 @@ impl<'a> Message<'a> {
     /// beside the message.
     pub fn notes(&self) -> &[u8] {
         &self.notes[..HEAD_SIZE + FIELD_SIZE * self.fields + END_SIZE]
+    }
+
+    /// Checks that the message has the fields that its MTI requires ([`check::required`]), and then each field in rising number
+    /// ([`check::field`]).
+    ///
+    /// ```
+    /// let message = obolchime::read(b"0800\x20\0\0\0\0\0\0\0000000")?;
+    /// assert_eq!(message.check().unwrap_err().to_string(), "field 11: required field missing (19)");
+    /// # Ok::<(), obolchime::Refusal>(())
+    /// ```
+    pub fn check(&self) -> Result<(), Refusal> {
+        check::required(self.input, &self.notes)?;
+        self.fields().try_for_each(|field| check::field(field.number, field.content))
     }
 
     /// The message written anew from its notes: proved to be the bytes that were read.

@@ -1,7 +1,7 @@
 //! What refusals say, and that they leave the buffers alone.
 
 use obolchime::length::{self, Encoding};
-use obolchime::{bcd, ebcdic, look_up, number, read, write_clean, write_exact, Notes, Refusal, Within};
+use obolchime::{bcd, check, ebcdic, look_up, number, read, write_clean, write_exact, Notes, Refusal, Within};
 
 fn words(answer: Result<impl std::fmt::Debug, Refusal>) -> String {
     answer.expect_err("this is refused").to_string()
@@ -46,6 +46,50 @@ fn writing() {
     assert_eq!(words(write_clean(b"1234567", &long, &mut [0; 19])), "field 3: length not allowed (12) at byte 6 of the notes");
     assert_eq!(words(look_up(b"1", &notes, 3)), "field 3: field absent (15) at byte 14 of the notes");
     assert_eq!(words(look_up(b"1", &notes, usize::MAX)), format!("field {}: field absent (15) at byte 14 of the notes", usize::MAX));
+}
+
+#[test]
+fn checking() {
+    assert_eq!(words(check::field(0, b"")), "field 0: field number not allowed here (10)");
+    assert_eq!(words(check::field(321, b"")), "field 321: field number not allowed here (10)");
+    assert_eq!(words(check::field(3, b"00000x")), "field 3: class broken (16)");
+    assert_eq!(words(check::field(3, b"0000000")), "field 3: length not allowed (12)");
+    assert_eq!(words(check::field(2, b"4111111111111112")), "field 2: PAN check fails (17)");
+    assert_eq!(words(check::field(5, b"000000000000")), "field 5: amount all zeros (18)");
+    assert_eq!(words(check::date(b"0100")), "date or time wrong (20)");
+    assert_eq!(words(check::time(b"236000")), "date or time wrong (20)");
+    assert_eq!(
+        words(check::required(b"", b"")),
+        "note missing, cut or of the wrong kind, or count of bitmaps not 1-3 (9) at byte 0 of the notes"
+    );
+
+    // the fields that a request needs, taken away one after the other; a response needs 39 as well
+    let whole = [(2, 16), (3, 6), (4, 12), (11, 6), (12, 6), (13, 4)];
+    let missing = |mti: &[u8; 4], without: usize| {
+        let mut notes = Notes::new(*mti, 1);
+        for &(number, size) in whole.iter().filter(|field| field.0 != without) {
+            notes = notes.field(number as u8, 0, size);
+        }
+        check::required(b"4111111111111111", &notes.end(0)).map_err(|refusal| (refusal.number(), refusal.field(), refusal.position()))
+    };
+    assert_eq!(missing(b"0200", 0), Ok(()));
+    for (number, _) in whole {
+        assert_eq!(missing(b"0200", number), Err((19, number, 0)));
+    }
+    assert_eq!(missing(b"0220", 2), Ok(()));
+    assert_eq!(missing(b"0210", 0), Err((19, 39, 0)));
+    assert_eq!(missing(b"0230", 0), Ok(()));
+}
+
+#[test]
+fn a_whole_message() {
+    let body = b"164111111111111111000000000000012345000001235959+231";
+    let bytes = [&b"0200\x70\x38\0\0\0\0\0\0"[..], body].concat();
+    let message = read(&bytes).expect("reading takes any text");
+    assert_eq!(words(message.check()), "field 13: class broken (16)");
+    let mut better = bytes.clone();
+    better[60] = b'1';
+    assert!(read(&better).unwrap().check().is_ok());
 }
 
 #[test]

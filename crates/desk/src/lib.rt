@@ -24,6 +24,8 @@ ghost use Rattle.message_lookup.specs.Lookup.{toldFound, lookedUp};
 ghost use Rattle.message_write.specs.Written.{answerBy, outputBy, paddedBy};
 ghost use Rattle.validation_pan.specs.Pan.{panFault};
 ghost use Rattle.validation_dates.specs.Dates.{dateFault, timeFault};
+ghost use Rattle.validation_field.specs.Checks.{fieldFault};
+ghost use Rattle.validation_required.specs.Required.{requiredIn};
 ghost use Rattle.desk.specs.Desk.{reading, written, cleaned, found, measurement, judgement, encodedBy, encodedInto, decodedBy};
 
 // What reading tells: the bytes used and the count of bitmaps.
@@ -117,6 +119,20 @@ pub extern "C" fn obol_look_up(values: &[u8], notes: &[u8], number: usize) -> Fo
     ensures { λ r. ⌜ r ≡ found (toldFound (lookedUp (now (values .entry)) (now (notes .entry)) number)) ⌝ }
 {
     tell_found(message_lookup::look_up(values, notes, number))
+}
+
+#[no_mangle]
+pub extern "C" fn obol_check_field(number: usize, content: &[u8]) -> Judgement
+    ensures { λ r. ⌜ r ≡ judgement (toldChecked (checked (fieldFault house number (now (content .entry))) number)) ⌝ }
+{
+    tell_checked(validation_field::check_field(number, content))
+}
+
+#[no_mangle]
+pub extern "C" fn obol_check_required(values: &[u8], notes: &[u8]) -> Judgement
+    ensures { λ r. ⌜ r ≡ judgement (toldChecked (requiredIn (now (values .entry)) (now (notes .entry)))) ⌝ }
+{
+    tell_checked(validation_required::check_required(values, notes))
 }
 
 #[no_mangle]
