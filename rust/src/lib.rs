@@ -2,7 +2,7 @@
 //! definitions say, on every input.
 //!
 //! ```
-//! let bytes = b"0800\x20\0\0\0\0\0\0\0000000 and what comes after it";
+//! let bytes = b"0800\x20\0\0\0\0\0\0\x00000000 and what comes after it";
 //! let message = obolchime::read(bytes)?;
 //! assert_eq!(message.mti(), "0800");
 //! assert_eq!(message.get(3), Some(&b"000000"[..]));

@@ -31,7 +31,7 @@ pub struct Field<'a> {
 /// field by field what runs past the end (5), a length byte that is no digit (6), a length over the table's (7), text over 0x7F (8).
 ///
 /// ```
-/// let message = obolchime::read(b"0800\x20\0\0\0\0\0\0\0000000")?;
+/// let message = obolchime::read(b"0800\x20\0\0\0\0\0\0\x00000000")?;
 /// assert_eq!((message.mti(), message.bitmaps(), message.used()), ("0800", 1, 18));
 /// let field = message.fields().next().unwrap();
 /// assert_eq!((field.number, field.offset, field.content), (3, 12, &b"000000"[..]));
@@ -84,7 +84,7 @@ impl<'a> Message<'a> {
     /// The content of a field, or `None` where the message does not have it.
     ///
     /// ```
-    /// let message = obolchime::read(b"0800\x20\0\0\0\0\0\0\0000000")?;
+    /// let message = obolchime::read(b"0800\x20\0\0\0\0\0\0\x00000000")?;
     /// assert_eq!(message.get(3), Some(&b"000000"[..]));
     /// assert_eq!(message.get(39), None);
     /// # Ok::<(), obolchime::Refusal>(())
@@ -104,7 +104,7 @@ impl<'a> Message<'a> {
     /// ([`check::field`]).
     ///
     /// ```
-    /// let message = obolchime::read(b"0800\x20\0\0\0\0\0\0\0000000")?;
+    /// let message = obolchime::read(b"0800\x20\0\0\0\0\0\0\x00000000")?;
     /// assert_eq!(message.check().unwrap_err().to_string(), "field 11: required field missing (19)");
     /// # Ok::<(), obolchime::Refusal>(())
     /// ```
@@ -116,7 +116,7 @@ impl<'a> Message<'a> {
     /// The message written anew from its notes: proved to be the bytes that were read.
     ///
     /// ```
-    /// let message = obolchime::read(b"0800\x20\0\0\0\0\0\0\0000000 and more")?;
+    /// let message = obolchime::read(b"0800\x20\0\0\0\0\0\0\x00000000 and more")?;
     /// assert_eq!(message.to_vec()?, message.bytes());
     /// # Ok::<(), obolchime::Refusal>(())
     /// ```

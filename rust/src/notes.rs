@@ -62,10 +62,10 @@ impl Notes {
 /// ```
 /// use obolchime::{read, write_exact};
 ///
-/// let message = read(b"0800\x20\0\0\0\0\0\0\0000000")?;
+/// let message = read(b"0800\x20\0\0\0\0\0\0\x00000000")?;
 /// let mut out = [0xFF; 20];
 /// assert_eq!(write_exact(message.bytes(), message.notes(), &mut out)?, 18);
-/// assert_eq!(&out, b"0800\x20\0\0\0\0\0\0\0000000\xFF\xFF");
+/// assert_eq!(&out, b"0800\x20\0\0\0\0\0\0\x00000000\xFF\xFF");
 /// # Ok::<(), obolchime::Refusal>(())
 /// ```
 pub fn write_exact(values: &[u8], notes: &[u8], out: &mut [u8]) -> Result<usize, Refusal> {
