@@ -1,2 +1,3 @@
 pub mod Encodings
+pub mod Spelling
 pub mod Words
