@@ -7,6 +7,7 @@ use Rattle.octets.proofs.Lists.{all-next}
 use Rattle.encoding_ebcdic.specs.Ebcdic.{meansAscii}
 use Rattle.encoding_ebcdic.proofs.Faults.{no-meaning, a-meaning, meaning-fails, meaning-passes}
 use borrow.Author.Needs.{needs}
+use native.Mathlib.Omega.{arith}
 use Rattle.encoding_ebcdic.proofs.decode_fault.Statement.{statement}
 use Rattle.encoding_ebcdic.proofs.decode_fault.Tie as tie
 
@@ -26,7 +27,9 @@ ascii-of-requires : tie.Need-ascii-of-requires Inv-loop μ-loop
 ascii-of-requires c κs = search needs
 
 returns : tie.Need-returns Inv-loop μ-loop
-returns c = search (meaning-fails, no-meaning, needs)
+returns c =
+    let here = c .before .before .before .before in
+    meaning-fails _ _ (here .loop .inv .1) (c .before .before .before .loop-test .taken) (no-meaning _ _ (c .before .ascii-of .ensures) (omega arith))
 
 add-i : tie.Need-add-i Inv-loop μ-loop
 add-i c = search needs

@@ -1,6 +1,8 @@
 -- The word is laid, then the space, the number and the end, each behind the last.
+use mathlib.Core.Path.{sym, _∙_}
 use Prim.Native.Nat.{_-_}
-use Rattle.till_lines.proofs.Writing.{Worded, Numbered, as-long, named-room, worded-size, spaced-size, numbered-room, numbered-size, end-laid}
+use lib.ListN.{length-set}
+use Rattle.till_lines.proofs.Writing.{Worded, Numbered, named-room, worded-size, spaced-size, numbered-room, numbered-size, end-laid}
 use borrow.Author.Needs.{needs}
 use native.Mathlib.Omega.{arith}
 use Rattle.till_lines.proofs.put_named.Statement.{statement}
@@ -55,7 +57,7 @@ add-result : tie.Need-add-result
 add-result c = omega (arith, numbered-room (numbered-at c), start (back c) .pre)
 
 same-length : tie.Need-same-length
-same-length c = as-long _ _ _ (end-laid (numbered-at c)) (start (back c) .pre)
+same-length c = sym (sym (numbered-size (numbered-at c)) ∙ simp length-set)
 
 returns : tie.Need-returns
 returns c = (numbered-room (numbered-at c), end-laid (numbered-at c))
