@@ -11,7 +11,7 @@ use Rattle.encoding_bcd.proofs.value_at.Statement.{statement}
 use Rattle.encoding_bcd.proofs.value_at.Tie as tie
 
 returns : tie.Need-returns
-returns c = (value-spare _ _ (c .if1 .taken), search needs)
+returns c = (value-spare (c .before .args .src .now) (c .before .args .j) (omega (arith, c .if1 .taken)), search needs)
 
 shared-slice-read-result : tie.Need-shared-slice-read-result
 shared-slice-read-result c = omega (arith, evened-length (c .before .before .args .src .now))

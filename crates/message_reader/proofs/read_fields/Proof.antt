@@ -13,18 +13,6 @@ Inv-loop message bitmaps start end maps at₀ field₀ at field = Scanned house 
 abbrev μ-loop : tie.MeasureT-loop
 μ-loop message bitmaps start end maps at₀ field₀ at field = 64 * bitmaps + 1 - field
 
-abbrev start : tie.At-loop Inv-loop μ-loop → tie.Start Inv-loop μ-loop
-start l = l .before .before .before
-
--- the turn of the loop in which a field was met and read
-abbrev here : tie.After-read-field Inv-loop μ-loop → tie.At-loop Inv-loop μ-loop
-here c = c .before .before .before .before .before
-
-met-at : (c : tie.After-read-field Inv-loop μ-loop) → Met house (start (here c) .args .message .now) (start (here c) .args .bitmaps) (here c .loop .at) (here c .loop .field) (c .read-field .result)
-met-at c =
-    let present = c .before .before in
-    met house _ _ _ _ _ _ (present .before .before .loop-test .taken) (present .before .has-field .ensures) (present .if1 .taken) (c .read-field .ensures)
-
 mul-start : tie.Need-mul-start Inv-loop μ-loop
 mul-start c = search needs
 
@@ -66,6 +54,18 @@ read-field-requires c κs = search needs
 
 enum-known-number : tie.Need-enum-known-number Inv-loop μ-loop
 enum-known-number c = search needs
+
+abbrev start : tie.At-loop Inv-loop μ-loop → tie.Start Inv-loop μ-loop
+start l = l .before .before .before
+
+-- the turn of the loop in which a field was met and read
+abbrev here : tie.After-read-field Inv-loop μ-loop → tie.At-loop Inv-loop μ-loop
+here c = c .before .before .before .before .before
+
+met-at : (c : tie.After-read-field Inv-loop μ-loop) → Met house (start (here c) .args .message .now) (start (here c) .args .bitmaps) (here c .loop .at) (here c .loop .field) (c .read-field .result)
+met-at c =
+    let present = c .before .before in
+    met house _ _ _ _ _ _ (present .before .before .loop-test .taken) (present .before .has-field .ensures) (present .if1 .taken) (c .read-field .ensures)
 
 returns : tie.Need-returns Inv-loop μ-loop
 returns c =

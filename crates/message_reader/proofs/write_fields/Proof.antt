@@ -14,18 +14,6 @@ Inv-loop message bitmaps notes₀ start end maps at₀ written₀ field₀ notes
 abbrev μ-loop : tie.MeasureT-loop
 μ-loop message bitmaps notes₀ start end maps at₀ written₀ field₀ notes at written field = 64 * bitmaps + 1 - field
 
-abbrev start : tie.At-loop Inv-loop μ-loop → tie.Start Inv-loop μ-loop
-start l = l .before .before .before .before
-
--- the turn of the loop in which a field was met and read
-abbrev here : tie.After-read-field Inv-loop μ-loop → tie.At-loop Inv-loop μ-loop
-here c = c .before .before .before .before .before
-
-met-at : (c : tie.After-read-field Inv-loop μ-loop) → Met house (start (here c) .args .message .now) (start (here c) .args .bitmaps) (here c .loop .at) (here c .loop .field) (c .read-field .result)
-met-at c =
-    let present = c .before .before in
-    met house _ _ _ _ _ _ (present .before .before .loop-test .taken) (present .before .has-field .ensures) (present .if1 .taken) (c .read-field .ensures)
-
 mul-start : tie.Need-mul-start Inv-loop μ-loop
 mul-start c = search needs
 
@@ -67,6 +55,18 @@ read-field-requires c κs = search needs
 
 enum-told : tie.Need-enum-told Inv-loop μ-loop
 enum-told c = search needs
+
+abbrev start : tie.At-loop Inv-loop μ-loop → tie.Start Inv-loop μ-loop
+start l = l .before .before .before .before
+
+-- the turn of the loop in which a field was met and read
+abbrev here : tie.After-read-field Inv-loop μ-loop → tie.At-loop Inv-loop μ-loop
+here c = c .before .before .before .before .before
+
+met-at : (c : tie.After-read-field Inv-loop μ-loop) → Met house (start (here c) .args .message .now) (start (here c) .args .bitmaps) (here c .loop .at) (here c .loop .field) (c .read-field .result)
+met-at c =
+    let present = c .before .before in
+    met house _ _ _ _ _ _ (present .before .before .loop-test .taken) (present .before .has-field .ensures) (present .if1 .taken) (c .read-field .ensures)
 
 same-length : tie.Need-same-length Inv-loop μ-loop
 same-length c = c .before .before .before .before .before .before .before .loop .inv .written .size

@@ -1,6 +1,8 @@
 -- The line is one of three words and their numbers.
 use Prim.Native.Nat.{_-_}
 use Rattle.till_lines.specs.Lines.{fieldLine}
+use Rattle.till_lines.proofs.Writing.{tripled-long, named-long}
+use native.Mathlib.Omega.{arith}
 use borrow.Author.Needs.{needs}
 use Rattle.till_lines.proofs.put_field.Statement.{statement}
 use Rattle.till_lines.proofs.put_field.Tie as tie
@@ -16,7 +18,7 @@ slice-aggregate-put-tripled-3 c = search needs
 
 put-tripled-requires : tie.Need-put-tripled-requires
 unfolding fieldLine
-put-tripled-requires c κs = c .before .before .before .before .before .pre
+put-tripled-requires c κs = simp (tripled-long, named-long) (omega (arith, simp (tripled-long, named-long) at (c .before .before .before .before .before .pre)))
 
 same-length : tie.Need-same-length
 same-length c = search needs
