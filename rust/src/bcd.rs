@@ -1,5 +1,6 @@
 //! BCD: two digits to a byte, with a leading 0 where their count is odd.
 
+use crate::refusal::written;
 use crate::{ffi, Refusal, Within};
 
 /// ASCII digits in BCD. Refuses a byte that is no digit (21).
@@ -20,7 +21,7 @@ pub fn encode(digits: &[u8]) -> Result<Vec<u8>, Refusal> {
 
 /// As [`encode`], into a buffer: answers the length, or refuses with 14 where it does not fit.
 pub fn encode_into(digits: &[u8], out: &mut [u8]) -> Result<usize, Refusal> {
-    written(ffi::bcd_encode(digits, out))
+    written(ffi::bcd_encode(digits, out), Within::Nothing)
 }
 
 /// So many ASCII digits from BCD. Refuses a source that is not half as many bytes long, rounded up (23), and a half-byte over 9 or a
@@ -43,10 +44,5 @@ pub fn decode(source: &[u8], digits: usize) -> Result<Vec<u8>, Refusal> {
 
 /// As [`decode`], into a buffer: answers the length, or refuses with 14 where it does not fit.
 pub fn decode_into(source: &[u8], digits: usize, out: &mut [u8]) -> Result<usize, Refusal> {
-    written(ffi::bcd_decode(source, digits, out))
-}
-
-pub(crate) fn written(answer: ffi::Written) -> Result<usize, Refusal> {
-    Refusal::unless_zero(answer.number, answer.field, answer.position, Within::Nothing)?;
-    Ok(answer.length as usize)
+    written(ffi::bcd_decode(source, digits, out), Within::Nothing)
 }

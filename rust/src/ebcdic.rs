@@ -1,7 +1,7 @@
 //! EBCDIC, byte by byte.
 
-use crate::bcd::written;
-use crate::{ffi, Refusal};
+use crate::refusal::written;
+use crate::{ffi, Refusal, Within};
 
 /// ASCII text in EBCDIC. Refuses a byte over 0x7F (24).
 ///
@@ -18,7 +18,7 @@ pub fn encode(text: &[u8]) -> Result<Vec<u8>, Refusal> {
 
 /// As [`encode`], into a buffer: answers the length, or refuses with 14 where it does not fit.
 pub fn encode_into(text: &[u8], out: &mut [u8]) -> Result<usize, Refusal> {
-    written(ffi::ebcdic_encode(text, out))
+    written(ffi::ebcdic_encode(text, out), Within::Nothing)
 }
 
 /// EBCDIC text in ASCII. Refuses a byte that has no ASCII meaning (24).
@@ -36,5 +36,5 @@ pub fn decode(source: &[u8]) -> Result<Vec<u8>, Refusal> {
 
 /// As [`decode`], into a buffer: answers the length, or refuses with 14 where it does not fit.
 pub fn decode_into(source: &[u8], out: &mut [u8]) -> Result<usize, Refusal> {
-    written(ffi::ebcdic_decode(source, out))
+    written(ffi::ebcdic_decode(source, out), Within::Nothing)
 }

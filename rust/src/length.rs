@@ -1,6 +1,6 @@
 //! Length indicators: a length in two or three digits.
 
-use crate::bcd::written;
+use crate::refusal::written;
 use crate::{ffi, Refusal, Within};
 
 /// How the digits of a length indicator are written.
@@ -43,7 +43,7 @@ pub fn encode(length: usize, digits: usize, encoding: Encoding) -> Result<Vec<u8
 
 /// As [`encode`], into a buffer: answers the length of the indicator, or refuses with 14 where it does not fit.
 pub fn encode_into(length: usize, digits: usize, encoding: Encoding, out: &mut [u8]) -> Result<usize, Refusal> {
-    written(ffi::length_encode(length, digits, encoding.number(), out))
+    written(ffi::length_encode(length, digits, encoding.number(), out), Within::Nothing)
 }
 
 /// The length that an indicator spells. Refuses a count of digits that is not two or three (25), a source that has not the bytes for

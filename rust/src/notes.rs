@@ -1,5 +1,6 @@
 //! Notes, and what is done by them: writing and looking up.
 
+use crate::refusal::written;
 use crate::{ffi, Refusal, Within};
 use std::fmt;
 
@@ -69,9 +70,7 @@ impl Notes {
 /// # Ok::<(), obolchime::Refusal>(())
 /// ```
 pub fn write_exact(values: &[u8], notes: &[u8], out: &mut [u8]) -> Result<usize, Refusal> {
-    let answer = ffi::write_exact(values, notes, out);
-    Refusal::unless_zero(answer.number, answer.field, answer.position, Within::Notes)?;
-    Ok(answer.length as usize)
+    written(ffi::write_exact(values, notes, out), Within::Notes)
 }
 
 /// Writes the message with fixed contents that are too short padded: numeric ones with `0` on the left, binary ones with zero bytes on

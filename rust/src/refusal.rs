@@ -1,5 +1,6 @@
 //! Why a call was refused.
 
+use crate::ffi;
 use std::fmt;
 
 /// Why a call was refused: a number, the field that it is about, and a position.
@@ -62,6 +63,12 @@ impl Refusal {
     pub fn reason(&self) -> &'static str {
         number::reason(self.number)
     }
+}
+
+/// The length that a writer or a conversion wrote, or its refusal.
+pub(crate) fn written(answer: ffi::Written, within: Within) -> Result<usize, Refusal> {
+    Refusal::unless_zero(answer.number, answer.field, answer.position, within)?;
+    Ok(answer.length as usize)
 }
 
 impl fmt::Display for Refusal {

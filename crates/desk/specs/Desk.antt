@@ -7,7 +7,8 @@
 --   measurement t         == what the decoding of a length told
 --   judgement t           == what a check told
 --   wordAt s i            == the eight bytes of s from i on, as one number, the first the highest
---   encodingOf e A B C D  == A, B, C for the numbers of the encodings ASCII, BCD, EBCDIC; D for a number that is none
+--   numberOf c            == the number of an encoding
+--   byEncoding e k none   == k of the encoding whose number is e; none where e is the number of none
 --   encodedBy e w n out   == the answer of writing the length n in w digits in the encoding of the number e
 --   encodedInto e w n out == each byte of its output
 --   decodedBy e w s       == the answer of reading s as a length of w digits in the encoding of the number e
@@ -92,23 +93,21 @@ measurement t =
 unfoldable pub judgement : Told → Judgement
 judgement t = record { number = t .refused .number; field = t .refused .field; position = t .refused .position }
 
--- An encoding is a number here, and 01 has none for a wrong one: 25, before every other test.
-abbrev pub encodingOf : {A : Type 0} → ℕ → A → A → A → A → A
-encodingOf e a b c d = cond (eqb e 0) a (cond (eqb e 1) b (cond (eqb e 2) c d))
+-- An encoding is a number here, and 01 has no refusal for a wrong one: 25, before every other test.
+abbrev pub numberOf : Encoding → ℕ
+numberOf Ascii = 0
+numberOf Bcd = 1
+numberOf Ebcdic = 2
 
-abbrev encoded : Encoding → ℕ → ℕ → List ℕ → Output
-encoded e w n out = converted (encodeFault w n) (spelt e (decimal w n)) out
-
-abbrev laid : Encoding → ℕ → ℕ → List ℕ → List ℕ
-laid e w n out = convertedInto (encodeFault w n) (spelt e (decimal w n)) out
+abbrev pub byEncoding : {A : Type 0} → ℕ → (Encoding → A) → A → A
+byEncoding e k none = cond (eqb e 0) (k Ascii) (cond (eqb e 1) (k Bcd) (cond (eqb e 2) (k Ebcdic) none))
 
 unfoldable pub encodedBy : ℕ → ℕ → ℕ → List ℕ → Output
 encodedBy e w n out =
-    encodingOf e (encoded Ascii w n out) (encoded Bcd w n out) (encoded Ebcdic w n out) (Refused (plain lengthNeedsDigits))
+    byEncoding e (λ c. converted (encodeFault w n) (spelt c (decimal w n)) out) (Refused (plain lengthNeedsDigits))
 
 unfoldable pub encodedInto : ℕ → ℕ → ℕ → List ℕ → List ℕ
-encodedInto e w n out = encodingOf e (laid Ascii w n out) (laid Bcd w n out) (laid Ebcdic w n out) out
+encodedInto e w n out = byEncoding e (λ c. convertedInto (encodeFault w n) (spelt c (decimal w n)) out) out
 
 unfoldable pub decodedBy : ℕ → ℕ → List ℕ → Measured
-decodedBy e w s =
-    encodingOf e (measured Ascii w s) (measured Bcd w s) (measured Ebcdic w s) (NotMeasured (plain lengthNeedsDigits))
+decodedBy e w s = byEncoding e (λ c. measured c w s) (NotMeasured (plain lengthNeedsDigits))

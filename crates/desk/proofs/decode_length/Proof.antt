@@ -1,5 +1,6 @@
 -- One arm for each encoding, and 25 where there is none (Encodings).
-use Rattle.desk.proofs.Encodings.{decoded-ascii, decoded-bcd, decoded-ebcdic, decoded-none}
+use Rattle.encoding_length.specs.declared.Encoding.the-variants.{Ascii, Bcd, Ebcdic}
+use Rattle.desk.proofs.Encodings.{decoded-in, decoded-none}
 use borrow.Author.Needs.{needs}
 use Rattle.desk.proofs.decode_length.Statement.{statement}
 use Rattle.desk.proofs.decode_length.Tie as tie
@@ -14,13 +15,13 @@ decode-requires-3 : tie.Need-decode-requires-3
 decode-requires-3 c κs = search needs
 
 returns : tie.Need-returns
-returns c = decoded-ascii _ _ _ _ (c .before .match .keys1) (c .decode .ensures)
+returns c = decoded-in Ascii _ _ _ _ (c .before .match .keys1) (c .decode .ensures)
 
 returns-2 : tie.Need-returns-2
-returns-2 c = decoded-bcd _ _ _ _ (c .before .match .keys2) (c .decode2 .ensures)
+returns-2 c = decoded-in Bcd _ _ _ _ (c .before .match .keys2) (c .decode2 .ensures)
 
 returns-3 : tie.Need-returns-3
-returns-3 c = decoded-ebcdic _ _ _ _ (c .before .match .keys3) (c .decode3 .ensures)
+returns-3 c = decoded-in Ebcdic _ _ _ _ (c .before .match .keys3) (c .decode3 .ensures)
 
 returns-4 : tie.Need-returns-4
 returns-4 c = decoded-none _ _ _ (c .match .rest .0 .0 .1) (c .match .rest .0 .1) (c .match .rest .1)

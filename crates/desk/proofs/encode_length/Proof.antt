@@ -1,5 +1,6 @@
 -- One arm for each encoding, and 25 where there is none (Encodings).
-use Rattle.desk.proofs.Encodings.{encoded-ascii, encoded-bcd, encoded-ebcdic, encoded-none}
+use Rattle.encoding_length.specs.declared.Encoding.the-variants.{Ascii, Bcd, Ebcdic}
+use Rattle.desk.proofs.Encodings.{encoded-in, encoded-none}
 use borrow.Author.Needs.{needs}
 use Rattle.desk.proofs.encode_length.Statement.{statement}
 use Rattle.desk.proofs.encode_length.Tie as tie
@@ -17,19 +18,19 @@ same-length : tie.Need-same-length
 same-length c = search needs
 
 returns : tie.Need-returns
-returns c = encoded-ascii _ _ _ _ _ _ (c .before .before .before .before .match .keys1) (c .before .before .encode .ensures)
+returns c = encoded-in Ascii _ _ _ _ _ _ (c .before .before .before .before .match .keys1) (c .before .before .encode .ensures)
 
 same-length-2 : tie.Need-same-length-2
 same-length-2 c = search needs
 
 returns-2 : tie.Need-returns-2
-returns-2 c = encoded-bcd _ _ _ _ _ _ (c .before .before .before .before .match .keys2) (c .before .before .encode2 .ensures)
+returns-2 c = encoded-in Bcd _ _ _ _ _ _ (c .before .before .before .before .match .keys2) (c .before .before .encode2 .ensures)
 
 same-length-3 : tie.Need-same-length-3
 same-length-3 c = search needs
 
 returns-3 : tie.Need-returns-3
-returns-3 c = encoded-ebcdic _ _ _ _ _ _ (c .before .before .before .before .match .keys3) (c .before .before .encode3 .ensures)
+returns-3 c = encoded-in Ebcdic _ _ _ _ _ _ (c .before .before .before .before .match .keys3) (c .before .before .encode3 .ensures)
 
 returns-4 : tie.Need-returns-4
 returns-4 c = encoded-none _ _ _ _ (c .match .rest .0 .0 .1) (c .match .rest .0 .1) (c .match .rest .1)
