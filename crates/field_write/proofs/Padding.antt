@@ -12,7 +12,7 @@ use Rattle.octets.specs.Numbers.{digits, decimal}
 use Rattle.octets.proofs.Cases.{by-bool, by-lt}
 use Rattle.field_table.specs.Table.{Table}
 use Rattle.field_table.specs.declared.Class.{Class}
-use Rattle.field_write.specs.Fields.{isShort, missing, padByte, padsLeft, padded, cleaned, fieldBytes, writtenSize, longest}
+use Rattle.field_write.specs.Fields.{isShort, missing, padByte, padsLeft, padded, cleaned, fieldBytes, fieldInto, writtenSize, longest}
 
 -- what is missing: nothing of a variable content, and of a fixed one what the table has more
 pub missing-variable : (t : Table) (f n : ℕ) → (t .width f ≡ 0 → ⊥) → missing t f n ≡ 0
@@ -76,11 +76,23 @@ module _ (c : Class) (k x : ℕ) (s d e : List ℕ) (flag : Bool) (byte : x ≡ 
   padded-right h p = rw (← side, h, ← byte) p
 
 -- the ends of `put_field`
-module _ (t : Table) (f w : ℕ) (s d e : List ℕ) (width : w ≡ t .width f) where
-  pub put-fixed : (c : Class) (k : ℕ) → w ≡ 0 → k ≡ missing t f (length s) → c ≡ t .class f → e ≡ placed (padded c k s) d → e ≡ placed (fieldBytes t f s) d
-  unfolding fieldBytes cleaned digits
-  put-fixed c k z pad class p = rw (← width, z, ← class, ← pad) p
+pub into-fits : (t : Table) (f : ℕ) (s d : List ℕ) → length s ≤ t .most f → fieldInto t f s d ≡ placed (fieldBytes t f s) d
+unfolding fieldInto
+into-fits t f s d h = rw (le-leb (length s) (t .most f) h)
 
-  pub put-variable : (w ≡ 0 → ⊥) → e ≡ placed (decimal w (length s) ++ s) d → e ≡ placed (fieldBytes t f s) d
-  unfolding fieldBytes cleaned
-  put-variable h p = rw (← none-variable t f w (length s) width h, padded-none (t .class f) s, ← width) p
+module _ (t : Table) (f m : ℕ) (s d : List ℕ) (most : m ≡ t .most f) where
+  pub put-long : m < length s → d ≡ fieldInto t f s d
+  unfolding fieldInto
+  put-long h = rw (lt-leb (length s) (t .most f) (omega (arith, most, h)))
+
+  module _ (short : length s ≤ m) (w : ℕ) (e : List ℕ) (width : w ≡ t .width f) where
+    fits : fieldInto t f s d ≡ placed (fieldBytes t f s) d
+    fits = into-fits t f s d (omega (arith, most, short))
+
+    pub put-fixed : (c : Class) (k : ℕ) → w ≡ 0 → k ≡ missing t f (length s) → c ≡ t .class f → e ≡ placed (padded c k s) d → e ≡ fieldInto t f s d
+    unfolding fieldBytes cleaned digits
+    put-fixed c k z pad class p = let q : e ≡ placed (fieldBytes t f s) d = rw (← width, z, ← class, ← pad) p in q ∙ sym fits
+
+    pub put-variable : (w ≡ 0 → ⊥) → e ≡ placed (decimal w (length s) ++ s) d → e ≡ fieldInto t f s d
+    unfolding fieldBytes cleaned
+    put-variable h p = let q : e ≡ placed (fieldBytes t f s) d = rw (← none-variable t f w (length s) width h, padded-none (t .class f) s, ← width) p in q ∙ sym fits

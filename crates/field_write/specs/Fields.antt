@@ -11,6 +11,7 @@
 --   padded c k s          == s with k bytes of padding, as its class c has it
 --   cleaned t f s         == s as it stands in field f once it is written: padded by what is missing
 --   fieldBytes t f s      == the bytes of field f with the content s: its length digits, of which a fixed field has none, then the content
+--   fieldInto t f s out   == out afterwards where field f is to be written to its front: left as it is where s is too long, or the bytes do not fit
 --   writtenSize t f n     == how many bytes field f takes with a content of n bytes
 --   longest               == the greatest length of a content that a note can hold, in two bytes
 --
@@ -20,7 +21,7 @@ use mathlib.Core.Bool.{Bool, true, false, cond}
 use mathlib.Core.List.{List, _++_}
 use lib.Dec.{eqb, leb, ltb}
 use lib.ListN.{length, replicate}
-use Rattle.octets.specs.Lists.{both, either, all}
+use Rattle.octets.specs.Lists.{both, either, all, placed}
 use Rattle.octets.specs.Numbers.{isAscii, decimal}
 use Rattle.refusal.specs.Numbers.{lengthNotAllowed, textNotAscii}
 use Rattle.field_table.specs.Table.{Table, isBinary}
@@ -79,6 +80,10 @@ cleaned t f s = padded (t .class f) (missing t f (length s)) s
 
 unfoldable pub fieldBytes : Table → ℕ → List ℕ → List ℕ
 fieldBytes t f s = decimal (t .width f) (length s) ++ cleaned t f s
+
+-- 01: "Nothing is cut."
+unfoldable pub fieldInto : Table → ℕ → List ℕ → List ℕ → List ℕ
+fieldInto t f s out = cond (leb (length s) (t .most f)) (placed (fieldBytes t f s) out) out
 
 unfoldable pub writtenSize : Table → ℕ → ℕ → ℕ
 writtenSize t f n = t .width f + n + missing t f n

@@ -8,7 +8,7 @@ ghost use lib.ListN.{length, replicate};
 ghost use Rattle.octets.specs.Lists.{placed};
 ghost use Rattle.octets.specs.Numbers.{decimal};
 ghost use Rattle.field_table.specs.House.{house};
-ghost use Rattle.field_write.specs.Fields.{isAllowedLength, textFault, exactFault, cleanFault, isShort, missing, padByte, padsLeft, padded, fieldBytes, writtenSize, longest};
+ghost use Rattle.field_write.specs.Fields.{isAllowedLength, textFault, exactFault, cleanFault, isShort, missing, padByte, padsLeft, padded, fieldInto, writtenSize, longest};
 
 // The greatest length of a content that a note can hold, in two bytes.
 pub const LONGEST: usize = 65535;
@@ -61,11 +61,13 @@ pub fn written_size(number: usize, length: usize) -> usize
     field_table::width_of(number) + length + missing(number, length)
 }
 
-// Writes field number to the front of out. No content is refused here: one that is too long is written whole, after the last digits
-// of its length. Where the field does not fit, out is left as it is.
+// Writes field number to the front of out. Where the content is too long for the field, or the field does not fit, out is left as it is.
 pub fn put_field(number: usize, content: &[u8], out: &mut [u8])
-    ensures { λ _. ⌜ now (out .exit) ≡ placed (fieldBytes house number (now (content .entry))) (now (out .entry)) ⌝ }
+    ensures { λ _. ⌜ now (out .exit) ≡ fieldInto house number (now (content .entry)) (now (out .entry)) ⌝ }
 {
+    if field_table::most_of(number) < content.len() {
+        return;
+    }
     let width = field_table::width_of(number);
     if width == 0 {
         let pad = missing(number, content.len());

@@ -14,9 +14,10 @@ use Rattle.octets.specs.Lists.{both, all, lay, placed}
 use Rattle.octets.proofs.Cases.{by-bool, both-left, both-right}
 use Rattle.octets.proofs.Parts.{Written, written-none, written-more, written-end, written-room}
 use Rattle.field_table.specs.Table.{Table}
-use Rattle.field_write.specs.Fields.{isShort, missing, fieldBytes, writtenSize, cleanFault, longest}
+use Rattle.field_write.specs.Fields.{isShort, missing, fieldBytes, fieldInto, writtenSize, cleanFault, longest}
 use Rattle.field_write.proofs.Allowed.{clean-passed}
 use Rattle.field_write.proofs.Cleaned.{written-size, clean-size}
+use Rattle.field_write.proofs.Padding.{into-fits}
 use Rattle.field_table.proofs.Rows.{Small}
 use Rattle.bitmap.specs.Bitmaps.{isField, noFields, withField, setOf, setFrom}
 use Rattle.bitmap.proofs.Sets.{set-is}
@@ -236,11 +237,11 @@ module _ {t : Table} {v n d o : List ℕ} {w : ℕ} where
           room,
         )
 
-    pub writing-more : {q : List ℕ} → q ≡ placed (fieldBytes t f (take (a + z - a) (drop a v))) (midOf w (length o - w) o) → Writing t v n d (putMid w (length o - w) o q) (w + size) es
+    pub writing-more : {q : List ℕ} → q ≡ fieldInto t f (take (a + z - a) (drop a v)) (midOf w (length o - w) o) → Writing t v n d (putMid w (length o - w) o q) (w + size) es
     unfolding bodyOf
     writing-more {q} h =
         record {
           written =
               written-more (bodyOf t v (entriesIn (testOf t Clean) v n)) d o (bytes small g ++ bodyOf t v es) (bytes small g) (bodyOf t v es) q w size (c .written) refl (good-size small g ∙ sym sized) writing-fits
-              (h ∙ ap (λ (x : ℕ). placed (fieldBytes t f (take x (drop a v))) (midOf w (length o - w) o)) (add-sub-cancel-left a z));
+              (h ∙ ap (λ (x : ℕ). fieldInto t f (take x (drop a v)) (midOf w (length o - w) o)) (add-sub-cancel-left a z) ∙ into-fits t f (contentOf v a z) (midOf w (length o - w) o) (clean-passed t f (contentOf v a z) (good-clean small g) .most));
         }

@@ -8,3 +8,4 @@ pub mod Noted
 pub mod Rereading
 pub mod RoundTrip
 pub mod Shorts
+pub mod Refusals

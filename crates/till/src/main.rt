@@ -3,9 +3,8 @@
 use libc::STDIN_FILENO;
 use libc::STDOUT_FILENO;
 
-// The input has room for one byte more than is read, so that an input that is too long shows.
 fn main() {
-    let mut input = [0u8; 60001];
+    let mut input = [0u8; till_lines::INPUT_ROOM];
     let n = io::read_full(STDIN_FILENO, &mut input);
     let mut text = [0u8; till_lines::TEXT_ROOM];
     let length = till_lines::report(&input[..n], &mut text);

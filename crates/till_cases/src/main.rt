@@ -26,9 +26,8 @@ fn run(i: usize) {
     libc::close(file);
 }
 
-// The input has room for one byte more than the till takes, so that one that is too long shows.
 fn print_report(file: i32) {
-    let mut input = [0u8; 60001];
+    let mut input = [0u8; till_lines::INPUT_ROOM];
     let n = io::read_full(file, &mut input);
     let mut text = [0u8; till_lines::TEXT_ROOM];
     let length = till_lines::report(&input[..n], &mut text);

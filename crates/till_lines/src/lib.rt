@@ -16,6 +16,9 @@ ghost use Rattle.till_lines.specs.Lines.{inputMost, textRoom, named, tri
 // 01: "standard input (at most 60,000 bytes)".
 pub const INPUT_MOST: usize = 60000;
 
+// Room for one byte more than is taken, so that an input that is too long shows.
+pub const INPUT_ROOM: usize = 60001;
+
 // Any report fits in this: two lines of a head, 190 lines of fields and one of the end.
 pub const TEXT_ROOM: usize = 8192;
 
@@ -24,8 +27,7 @@ const SPACE: u8 = b' ';
 const NEWLINE: u8 = b'\n';
 
 // Writes the lines for an input to the front of text, and answers how many bytes they take. Where text has not the room
-// of any report, it is left as it is and the answer is 0. The last clause follows from the others, and lets a caller lend
-// `&text[..k]` with no proof of its own.
+// of any report, it is left as it is and the answer is 0.
 pub fn report(input: &[u8], text: &mut [u8]) -> usize
     ensures answers { λ r. ⌜ r ≡ reportSize house (now (input .entry)) (now (text .entry)) ⌝ }
     ensures writes { λ _. ⌜ now (text .exit) ≡ reportText house (now (input .entry)) (now (text .entry)) ⌝ }

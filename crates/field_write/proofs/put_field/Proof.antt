@@ -1,8 +1,14 @@
--- Fixed and padded, or length digits and the content.
-use Rattle.field_write.proofs.Padding.{put-fixed, put-variable}
+-- Too long, fixed and padded, or length digits and the content.
+use Rattle.field_write.proofs.Padding.{put-long, put-fixed, put-variable}
 use borrow.Author.Needs.{needs}
 use Rattle.field_write.proofs.put_field.Statement.{statement}
 use Rattle.field_write.proofs.put_field.Tie as tie
+
+most-of-requires : tie.Need-most-of-requires
+most-of-requires c κs = search needs
+
+returns : tie.Need-returns
+returns c = search (put-long, needs)
 
 width-of-requires : tie.Need-width-of-requires
 width-of-requires c κs = search needs
@@ -19,8 +25,8 @@ put-padded-requires c κs = search needs
 same-length : tie.Need-same-length
 same-length c = search needs
 
-returns : tie.Need-returns
-returns c = search (put-fixed, needs)
+returns-2 : tie.Need-returns-2
+returns-2 c = search (put-fixed, needs)
 
 put-counted-requires : tie.Need-put-counted-requires
 put-counted-requires c κs = search needs
@@ -28,19 +34,21 @@ put-counted-requires c κs = search needs
 same-length-2 : tie.Need-same-length-2
 same-length-2 c = search needs
 
-returns-2 : tie.Need-returns-2
-returns-2 c = search (put-variable, needs)
+returns-3 : tie.Need-returns-3
+returns-3 c = search (put-variable, needs)
 
 pub put-field-spec : {M : Type 1} → statement M
 put-field-spec =
     tie.close
     (tie.spec
+    most-of-requires
+    returns
     width-of-requires
     missing-requires
     class-of-requires
     put-padded-requires
     same-length
-    returns
+    returns-2
     put-counted-requires
     same-length-2
-    returns-2)
+    returns-3)
