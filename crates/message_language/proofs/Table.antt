@@ -1,4 +1,4 @@
--- The house table has exactly one row for each field, and none for any other number. Assumes nothing.
+-- The house table has exactly one row for each field, and none for any other number that a byte holds. Assumes nothing.
 use Prim.Native.Nat.{ℕ, _+_, _<_}
 use mathlib.Core.Path.{_≡_}
 use mathlib.Core.Bool.{Bool}

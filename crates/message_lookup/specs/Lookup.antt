@@ -1,6 +1,7 @@
 -- Lookup: a field's content, given values, notes and a number. 01: "Lookup walks head 9, 3, fields 9, 10, 11, end 9, then 15."
 --
 --   foundIn f at es     == where the entries es have field f; 15 at the end note's place `at` where they do not
+--   foundBy e f es      == the answer after a walk that ended as e says and passed the entries es
 --   lookedUp v n f      == what lookup answers: the whole walk is judged first, wherever the field was met
 --   toldFound r         == what the answer tells; its values are the content's offset and length
 --   startOf r           == where the part that is handed back starts: at the content, or at the values' front where it is refused

@@ -11,6 +11,8 @@
 --                        == how long each is
 --   entryOf bs           == the entry that the bytes of a field note spell
 --   entryAt n i          == the entry of the field note i, from 0, in the notes n
+--   fieldNoteAt s, endNoteAt s
+--                        == the note at the front of s where its first byte is that kind's: malformed where it is cut
 --   noteAt s             == the note of a field or of the end at the front of s: malformed where it is missing, cut or of another kind
 --   notesRoom            == what the notes of any message fit in: a head, 190 fields and an end
 --

@@ -1,4 +1,4 @@
-// The bytes of notes. 01, "Notes". A changed layout moves these routines and their definitions, and nothing above them.
+// The bytes of notes. 01, "Notes". The layout of a note's bytes is said here and nowhere above.
 ghost use mathlib.Core.Path.{_≡_};
 ghost use Rattle.octets.specs.Lists.{placed};
 ghost use Rattle.message_language.specs.Language.{entry};

@@ -1,6 +1,6 @@
 -- Demand 3, its reading half: "the reader accepts an input exactly when it begins with a message of that language. Only one such
--- message and one reading of it exist; the notes spell that reading". Proved in proofs/Demand3.antt for every table whose lengths
--- three digits can spell, and said of the house table there.
+-- message and one reading of it exist; the notes spell that reading". Proved in proofs/Demand3.antt for every small table
+-- (`Small` of field_table/proofs/Rows.antt: at most three length digits, which can spell every length), and said of the house table there.
 --
 --   Reads t   == all of it, of reading by the table t. `Begins t 3 s u r`: the input s begins with a message of the language that is
 --                u bytes long, has the reading r and at most three bitmaps.

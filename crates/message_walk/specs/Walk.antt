@@ -10,9 +10,11 @@
 --   numberAllowed m last f    == f may follow the number last where there are m bitmaps
 --   contentOf v o n           == the n bytes of the values v at o
 --   judged p v m last s       == what the note at the front of s is found to be by the test p
---   passed p v m k last s     == the entries of the notes from s on that pass, up to the first that does not, or the end note
+--   judgedField p v m last f o n == the same of a field's note, with the number f, the offset o and the length n
+--   passed p v m k last s     == the entries of the notes from s on that pass, up to the first that does not, or the end note; k bounds their
+--                                count, and the length of the notes is always enough
 --   Ending                    == how a walk ends: at the end note, with its place and number, or with a refusal
---   ending p v m k last at s  == how it ends, where s stands at the place `at`; k is the number of bytes left, so that it does
+--   ending p v m k last at s  == how it ends, where s stands at the place `at`; k bounds the notes still to be judged, as in `passed`
 --   walked p v n              == how the walk over the notes n ends
 --   entriesIn p v n           == the entries that it passes
 --

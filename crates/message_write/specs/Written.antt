@@ -7,8 +7,10 @@
 --   shortIn t es              == the numbers of the fixed fields among es whose contents are too short
 --   bytesBy p t v n           == the message that the notes n and the values v stand for, where the test p is asked of contents
 --   answered, laidOut         == the answer and the output of a writer whose walk ends at the end note `at` that says u
+--   answerOn, outputOn        == the same of one whose walk ended as said, with a refusal or at the end note
 --   answerBy p t v n out      == what the writer answers
 --   outputBy p t v n out      == each byte of its output
+--   paddedOn o t es           == the fields padded by a writer that answered o and was to write the entries es
 --   paddedBy p t v n out      == the set of fields that it padded, as 24 bytes of bits; all zero on refusal
 --
 -- Assumes nothing: these are definitions.

@@ -1,5 +1,6 @@
 -- Reading, lookup and both writers held together: demand 3's writing half and what goes with it. Proved in proofs/RoundTrip.antt,
--- Rereading.antt, Cleaning.antt and LookedUp.antt: for every table whose lengths three digits can spell, and said of the house table there.
+-- Rereading.antt, Cleaning.antt and LookedUp.antt: for every small table (`Small` of
+-- field_table/proofs/Rows.antt: at most three length digits, which can spell every length), and said of the house table there.
 --
 --   isByte x                  == x is a number that a byte holds, as every element of a slice is
 --   GivesBack t               == reading by the table t, and then exact writing, gives back what was read
@@ -112,8 +113,8 @@ pub record ReadsAs (t : Table) (s b : List ℕ) (u : ℕ) (mti : List ℕ) (m : 
   -- … and there stand exactly these contents.
   pub contents : contentsIn s (standing t (4 + 8 * m) cs) ≡ cs
 
--- Theorem 3: "What the exact writer writes, from any notes and values that it accepts, is a message of the language, and reading it back
--- gives those contents again (offsets moved to the message)."
+-- What the exact writer writes, from any notes and values that it accepts, is a message of the language, and reading it back gives those
+-- contents again, their offsets moved to the message.
 pub record WritesMessages (t : Table) : Type 0 where
   -- Where the exact writer answers u, the first u bytes of its output are a message, whose MTI and count of bitmaps are the head's, and
   -- whose fields are those of the notes, in their order and with their lengths. Shuts out a writer whose bitmaps do not name its fields.
@@ -142,7 +143,7 @@ pub record Short (t : Table) (f : ℕ) (cs : List Content) : Type 0 where
   pub fixed : t .width f ≡ 0
   pub short : length bytes < t .most f
 
--- Theorem 4, first part: "Cleaning agrees with exact writing, with an empty padded set, where nothing is short".
+-- Cleaning agrees with exact writing, with an empty padded set, where nothing is short.
 pub record AgreesWithExact (t : Table) : Type 0 where
   -- Where nothing that the notes name is short, the cleaning writer answers the same, be it the length written or a refusal, …
   pub same-answer :
@@ -162,8 +163,8 @@ pub record AgreesWithExact (t : Table) : Type 0 where
   -- Nothing is short wherever the exact writer writes.
   pub exact-not-short : (v n out : List ℕ) (u : ℕ) → answerBy (exactFault t) t v n out ≡ Written u → (f : ℕ) → Short t f (named v n) → ⊥
 
--- Theorem 4, its other parts: "otherwise the output differs only in the padded fields; the padded set is exactly the set of short fixed
--- fields; no content byte is ever dropped."
+-- Otherwise the output differs only in the padded fields; the padded set is exactly the set of short fixed fields; no content byte is ever
+-- dropped.
 pub record PadsShortAlone (t : Table) : Type 0 where
   -- The exact writer's output is the message with the contents that the notes name …
   pub exact-writes :

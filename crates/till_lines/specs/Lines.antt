@@ -1,6 +1,7 @@
 -- What the till program prints for an input. 01: "reads standard input (at most 60,000 bytes) and prints, for case 2 below, these
 -- four lines: `mti 0800`, `bitmaps 1`, `field 3 at 12 length 6`, `used 18`. A refusal is one line: `refused 7 field 2 at 12`."
 --
+--   newline              == the byte that ends a line
 --   named w n e          == the word w, a space, the number n in decimal and the byte e
 --   tripled a x b y c z  == a line of three words, each with its number
 --   mtiLine mti          == the line of an MTI

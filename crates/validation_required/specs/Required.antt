@@ -8,6 +8,7 @@
 --   requiredBy m          == the fields required of a message with the MTI m, in 01's order
 --   requiredMore m        == those behind the four that every message needs
 --   requiredOfResponse m  == the last of them
+--   isFound r             == lookup's answer r found the field
 --   isPresent v n f       == lookup finds field f
 --   firstMissing p fs     == the first of the fields fs that does not pass p; 0 where all do
 --   missingAnswer f       == the answer where field f is missing; where f is 0, none is
