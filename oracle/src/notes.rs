@@ -1,0 +1,36 @@
+//! Notes as bytes: document 01, "Notes".
+use crate::case::Contents;
+
+/// What the reader asks for.
+pub const ROOM: usize = 1531;
+
+/// Values and notes for the contents, with the least count of bitmaps that holds them and the given length in the end note.
+pub fn of(contents: &Contents, length: usize) -> (Vec<u8>, Vec<u8>) {
+    let count = contents.fields.iter().map(|(f, _)| (f - 1) / 64 + 1).max().unwrap_or(1);
+    let mut values = Vec::new();
+    let mut notes = vec![0x01];
+    notes.extend(contents.mti);
+    notes.push(count);
+    for (f, content) in &contents.fields {
+        notes.extend([0x02, *f]);
+        notes.extend((values.len() as u32).to_be_bytes());
+        notes.extend((content.len() as u16).to_be_bytes());
+        values.extend(content);
+    }
+    notes.push(0x04);
+    notes.extend((length as u32).to_be_bytes());
+    (values, notes)
+}
+
+/// Of notes: the fields with offset and length, the length that the end note says, and the count of bytes that the notes take.
+pub fn taken_apart(notes: &[u8]) -> Option<(Vec<(u8, usize, usize)>, usize, usize)> {
+    let number = |at: usize, n: usize| notes[at..at + n].iter().fold(0, |sum, b| 256 * sum + *b as usize);
+    let mut fields = Vec::new();
+    let mut at = 6;
+    while *notes.get(at)? == 0x02 && at + 8 <= notes.len() {
+        fields.push((notes[at + 1], number(at + 2, 4), number(at + 6, 2)));
+        at += 8;
+    }
+    let whole = notes[0] == 0x01 && notes[at] == 0x04 && at + 5 <= notes.len();
+    whole.then(|| (fields, number(at + 1, 4), at + 5))
+}

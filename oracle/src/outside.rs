@@ -1,0 +1,282 @@
+//! Where the two part: the entries of docs/DIFFERENCES.md that can be run, each with its input, and what either side answers. A run fails
+//! where an answer is not the one listed.
+use crate::case::{shown, Answer, Case, Contents, Encoding::*};
+use crate::table::Domain;
+use crate::{here, notes, there};
+use iso8583_core::bitmap::Bitmap;
+use iso8583_core::field::{Field, FieldDefinition, FieldValue};
+use iso8583_core::message::ISO8583Message;
+use iso8583_core::validation::Validator;
+use std::panic::catch_unwind;
+
+/// Prints every entry, and answers how many are not as listed.
+pub fn run(domain: &Domain) -> usize {
+    let mut list = List { domain, wrong: 0, count: 0 };
+    println!("outside the domain:");
+    bitmaps(&mut list);
+    encodings(&mut list);
+    fields(&mut list);
+    reading(&mut list);
+    cleaning(&mut list);
+    validation(&mut list);
+    println!("{} run outside the domain, {} not as listed", list.count, list.wrong);
+    list.wrong
+}
+
+struct List<'a> {
+    domain: &'a Domain,
+    wrong: usize,
+    count: usize,
+}
+
+impl List<'_> {
+    fn case(&mut self, entry: &str, case: Case, here_listed: &str, there_listed: &str) {
+        let (ours, theirs) = (here::answer(&case), there::answer(&case));
+        let parted = !ours.same(&theirs) && !case.in_domain(self.domain);
+        self.other(entry, &case.to_string(), ours.to_string(), theirs.to_string(), here_listed, there_listed);
+        if !parted {
+            println!("    NOT A DIFFERENCE OUTSIDE THE DOMAIN");
+            self.wrong += 1;
+        }
+    }
+
+    fn other(&mut self, entry: &str, input: &str, ours: String, theirs: String, here_listed: &str, there_listed: &str) {
+        self.count += 1;
+        println!("  {entry}: {input}\n    here:  {ours}\n    there: {theirs}");
+        if ours != here_listed || theirs != there_listed || ours == theirs {
+            println!("    NOT AS LISTED: here {here_listed}; there {there_listed}");
+            self.wrong += 1;
+        }
+    }
+}
+
+/// `0800`, a bitmap with the bits set, and what follows.
+fn with_bits(bits: &[u8], rest: &[u8]) -> Vec<u8> {
+    let mut bytes = b"0800\0\0\0\0\0\0\0\0".to_vec();
+    for f in bits {
+        bytes[4 + (*f as usize - 1) / 8] |= 0x80 >> ((f - 1) % 8);
+    }
+    [&bytes, rest].concat()
+}
+
+fn one(f: u8, content: &[u8]) -> Contents {
+    Contents { mti: *b"0800", fields: vec![(f, content.to_vec())] }
+}
+
+fn hex(bytes: &[u8]) -> String {
+    let said: Vec<String> = bytes.iter().map(|b| format!("{b:02X}")).collect();
+    said.join(" ")
+}
+
+fn bitmaps(list: &mut List) {
+    let mut bitmap = Bitmap::new();
+    bitmap.set(1).unwrap();
+    let listed = format!("{:?}", &bitmap.get_set_fields().0[..bitmap.get_set_fields().1]);
+    bitmap.clear(1).unwrap();
+    let (bytes, n) = bitmap.to_bytes();
+    let two = exact(b"", b"\x010800\x02\x04\x00\x00\x00\x14");
+    let sixteen = "00 00 00 00 00 00 00 00 00 00 00 00 00 00 00 00";
+    let first_set = format!("80{}", &sixteen[2..]);
+    list.other("Bitmap 1", "set(1), clear(1); here two bitmaps without fields", hex(&two[4..]), hex(&bytes[..n]), &first_set, sixteen);
+
+    let alone = Bitmap::from_bytes(b"\x80\0\0\0\0\0\0\0").unwrap();
+    let (bytes, n) = alone.to_bytes();
+    let message = here::answer(&Case::Read(with_bits(&[1], b""))).to_string();
+    list.other(
+        "Bitmap 2",
+        "80 and seven zero bytes, nothing after it; here in a message",
+        message,
+        hex(&bytes[..n]),
+        "refused 4 field 0 at 12",
+        "80 00 00 00 00 00 00 00",
+    );
+
+    let mut notes = [0; notes::ROOM];
+    let message = with_bits(&[1], &[0; 8]);
+    here::read(&message, &mut notes);
+    let found = here::look_up(&message, &notes, 1).verdict.number;
+    list.other("Bitmap 3", "set(1), get_set_fields; here lookup of 1", format!("refused {found}"), listed, "refused 15", "[1]");
+}
+
+fn encodings(list: &mut List) {
+    let bytes = |b: &[u8]| b.to_vec();
+    list.case("Encoding 1", Case::BcdDecode(bytes(b"\x01"), 1), "`1`", "`0`");
+    list.case("Encoding 1", Case::BcdDecode(bytes(b"\x01\x23"), 3), "`123`", "`012`");
+    list.case("Encoding 2", Case::BcdDecode(bytes(b"\x12"), 1), "refused 22 field 0 at 0", "`1`");
+    list.case("Encoding 3", Case::BcdDecode(bytes(b""), 1), "refused 23 field 0 at 0", "nothing");
+    list.case("Encoding 3", Case::BcdDecode(bytes(b"\x12"), 0), "refused 23 field 0 at 0", "nothing");
+    list.case("Encoding 3", Case::BcdDecode(bytes(b"\x12\xFF"), 2), "refused 23 field 0 at 0", "`12`");
+    list.case("Encoding 4", Case::EbcdicEncode(bytes("é".as_bytes())), "refused 24 field 0 at 0", "`f` B4");
+    list.case("Encoding 5", Case::EbcdicDecode(bytes(b"\x66\xB4")), "refused 24 field 0 at 0", "C3 A9");
+    list.case("Encoding 6", Case::LengthEncode(100, 2, Ascii), "refused 25 field 0 at 0", "`100`");
+    list.case("Encoding 6", Case::LengthEncode(100, 2, Ebcdic), "refused 25 field 0 at 0", "F1 F0 F0");
+    list.case("Encoding 6", Case::LengthEncode(100, 2, Bcd), "refused 25 field 0 at 0", "01 00");
+    list.case("Encoding 7", Case::LengthEncode(5, 1, Ascii), "refused 25 field 0 at 0", "`5`");
+    list.case("Encoding 7", Case::LengthDecode(bytes(b"5"), 1, Ascii), "refused 25 field 0 at 0", "5");
+    list.case("Encoding 8", Case::LengthDecode(bytes(b"5"), 2, Ascii), "refused 23 field 0 at 0", "5");
+    list.case("Encoding 8", Case::LengthDecode(bytes(b"\xF5"), 2, Ebcdic), "refused 23 field 0 at 0", "5");
+    list.case("Encoding 9", Case::LengthDecode(bytes(b"+5"), 2, Ascii), "refused 6 field 0 at 0", "5");
+    list.case("Encoding 9", Case::LengthDecode(bytes(b"\x4E\xF5"), 2, Ebcdic), "refused 6 field 0 at 0", "5");
+    list.case("Encoding 10", Case::LengthDecode(bytes(b"\x01\x23"), 3, Bcd), "123", "12");
+    list.case("Encoding 10", Case::LengthDecode(bytes(b"\x12\x34"), 3, Bcd), "refused 22 field 0 at 0", "123");
+    list.case("Encoding 10", Case::LengthDecode(bytes(b"\x12\x34"), 2, Bcd), "refused 23 field 0 at 0", "12");
+}
+
+fn fields(list: &mut List) {
+    let entry = |n: u8| match catch_unwind(|| FieldDefinition::get(n)) {
+        Ok(Some(d)) => format!("the entry of {}: {:?} {:?}", d.number, d.field_type, d.length),
+        Ok(None) => "none".into(),
+        Err(_) => "panics".into(),
+    };
+    let check = |n: u64, content: &[u8]| said(here::check_field(n, content));
+    list.other(
+        "Field 1",
+        "FieldDefinition::get(64); here eight bytes in field 64",
+        check(64, &[0; 8]),
+        entry(64),
+        "good",
+        "the entry of 72: Numeric Fixed(4)",
+    );
+    list.other(
+        "Field 1",
+        "FieldDefinition::get(56); here nothing in field 56",
+        check(56, b""),
+        entry(56),
+        "good",
+        "the entry of 64: Binary Fixed(8)",
+    );
+    list.case(
+        "Field 1",
+        Case::Read(with_bits(&[56], b"000")),
+        "used 15, bitmaps 1, field 56 nothing",
+        "Field 64 length mismatch: expected 8, got 3",
+    );
+    list.case(
+        "Field 2",
+        Case::Clean(one(128, b"ABCDEFGH")),
+        "`0800` 80 00 00 00 00 00 00 00 00 00 00 00 00 00 00 01 `ABCDEFGH`",
+        "`0800` 80 00 00 00 00 00 00 00 00 00 00 00 00 00 00 01 `008ABCDEFGH`",
+    );
+    list.other("Field 3", "FieldDefinition::get(121); here nothing in field 121", check(121, b""), entry(121), "good", "panics");
+    list.case(
+        "Field 4",
+        Case::Clean(one(97, b"C0000000000000001")),
+        "`0800` 80 00 00 00 00 00 00 00 00 00 00 00 80 00 00 00 `C0000000000000001`",
+        "`0800` 80 00 00 00 00 00 00 00 00 00 00 00 80 00 00 00 `017C0000000000000001`",
+    );
+    let number = |n: u8| Field::from_number(n).map_or_else(|e| e.to_string(), |f| f.definition().name.into());
+    list.other("Field 6", "field 129; here nothing in it", check(129, b""), number(129), "good", "Invalid field number: 129");
+    list.other("Field 7", "field 1; here nothing in it", check(1, b""), number(1), "refused 10 field 1 at 0", "Secondary Bitmap");
+}
+
+fn reading(list: &mut List) {
+    let second = |bit: u8, rest: &[u8]| [&[bit, 0, 0, 0, 0, 0, 0, 0], rest].concat();
+    let mut read = |entry: &str, message: Vec<u8>, ours: &str, theirs: &str| list.case(entry, Case::Read(message), ours, theirs);
+    read("Message 1", with_bits(&[1], &second(0x40, b"")), "refused 5 field 66 at 20", "used 20, bitmaps 1");
+    read("Message 1", with_bits(&[1], &second(0x04, b"301")), "used 23, bitmaps 2, field 70 `301`", "used 20, bitmaps 1");
+    read("Message 2", with_bits(&[1], &second(0x80, b"")), "refused 4 field 0 at 20", "used 20, bitmaps 1");
+    read("Message 2", with_bits(&[1], &second(0x80, &[0; 8])), "used 28, bitmaps 3", "used 20, bitmaps 1");
+    read("Message 3", with_bits(&[2], b"+0"), "refused 6 field 2 at 12", "used 14, bitmaps 1, field 2 nothing");
+    read("Message 3", with_bits(&[2], b"+512345"), "refused 6 field 2 at 12", "used 19, bitmaps 1, field 2 `12345`");
+    read("Message 4", with_bits(&[25], "é".as_bytes()), "refused 8 field 25 at 12", "used 14, bitmaps 1, field 25 C3 A9");
+    read("Message 5", with_bits(&[64], b"ABCD"), "refused 5 field 64 at 12", "used 16, bitmaps 1, field 64 `ABCD`");
+    read("Message 5", with_bits(&[64], b"ABCDEFGH"), "used 20, bitmaps 1, field 64 `ABCDEFGH`", "used 16, bitmaps 1, field 64 `ABCD`");
+    read("Message 6", with_bits(&[28], b"D0000000"), "refused 5 field 28 at 12", "used 20, bitmaps 1, field 28 `D0000000`");
+
+    let message = with_bits(&[1], &[0; 8]);
+    let mut notes = [0; notes::ROOM];
+    here::read(&message, &mut notes);
+    let ours = shown(&exact(&message, &notes));
+    let theirs = shown(&ISO8583Message::from_bytes(&message).unwrap().to_bytes());
+    let twelve = "`0800` 80 00 00 00 00 00 00 00";
+    let twenty = format!("{twelve} 00 00 00 00 00 00 00 00");
+    list.other("Message 7", "`0800` 80 and 15 zero bytes, read and written", ours, theirs, &twenty, twelve);
+}
+
+fn cleaning(list: &mut List) {
+    let mut clean =
+        |entry: &str, f: u8, content: &[u8], ours: &str, theirs: &str| list.case(entry, Case::Clean(one(f, content)), ours, theirs);
+    clean("Message 8", 27, b"12", "refused 12 field 27 at 6", "`0800` 00 00 00 ` ` 00 00 00 00 `1`");
+    clean("Message 8", 52, b"ABCDEFGHI", "refused 12 field 52 at 6", "`0800` 00 00 00 00 00 00 10 00 `ABCDEFGH`");
+    clean("Message 9", 32, b"123456789012", "refused 12 field 32 at 6", "`0800` 00 00 00 01 00 00 00 00 `12123456789012`");
+    let hundred = [b'1'; 100];
+    let theirs = format!("`0800@` 00 00 00 00 00 00 00 `100{}`", "1".repeat(100));
+    clean("Message 9", 2, &hundred, "refused 12 field 2 at 6", &theirs);
+    clean("Message 10", 27, "é".as_bytes(), "refused 12 field 27 at 6", "panics");
+    clean("Message 11", 25, "é".as_bytes(), "refused 8 field 25 at 6", "`0800` 00 00 00 80 00 00 00 00 C3 A9");
+    clean("Message 11", 40, "é".as_bytes(), "refused 8 field 40 at 6", "`0800` 00 00 00 00 01 00 00 00 C3 A9 `  `, padded 40");
+    clean("Message 13", 49, b"5", "`0800` 00 00 00 00 00 00 80 00 `005`, padded 49", "`0800` 00 00 00 00 00 00 80 00 `5  `, padded 49");
+    clean(
+        "Message 14",
+        28,
+        b"D",
+        "`0800` 00 00 00 10 00 00 00 00 `D        `, padded 28",
+        "`0800` 00 00 00 10 00 00 00 00 `0000000D`, padded 28",
+    );
+
+    let mut kind = |input: &str, f: u8, content: &[u8], value: FieldValue, ours: &str, theirs: &str| {
+        let Answer::Written(bytes, _) = here::answer(&Case::Clean(one(f, content))) else { panic!("written") };
+        let mut message = there::message_of(&Contents { mti: *b"0800", fields: Vec::new() });
+        message.set_field(Field::from_number(f).unwrap(), value).unwrap();
+        list.other("Message 12", input, shown(&bytes[12..]), shown(&message.to_bytes()[12..]), ours, theirs)
+    };
+    let text = FieldValue::from_string("A");
+    kind("field 52 `A`, there as text", 52, b"A", text, "`A` 00 00 00 00 00 00 00", "`A       `");
+    let binary = FieldValue::from_binary(b"1".to_vec());
+    kind("field 3 `1`, there as binary", 3, b"1", binary, "`000001`", "`1` 00 00 00 00 00");
+}
+
+fn validation(list: &mut List) {
+    list.case("Validation 1", Case::Date(b"+1+1".to_vec()), "refused 20 field 0 at 0", "good");
+    list.case("Validation 1", Case::Time(b"+0+0+0".to_vec()), "refused 20 field 0 at 0", "good");
+    list.case("Validation 2", Case::Date("1é1".into()), "refused 20 field 0 at 0", "panics");
+    list.case("Validation 2", Case::Time("1é123".into()), "refused 20 field 0 at 0", "panics");
+    list.case("Validation 3", Case::Class(39, b"!!".to_vec()), "refused 16 field 39 at 0", "good");
+    list.case("Validation 4", Case::Class(34, b"=".to_vec()), "good", "Field must be numeric");
+    list.case("Validation 4", Case::Class(49, b"EUR".to_vec()), "refused 16 field 49 at 0", "good");
+    for f in [36, 50, 51, 83, 84, 85, 86, 87, 88, 90, 99, 100] {
+        list.case("Validation 4", Case::Class(f, b"A".to_vec()), &format!("refused 16 field {f} at 0"), "good");
+    }
+
+    let format = |f: u8, value: &FieldValue| result(Validator::validate_field_format(Field::from_number(f).unwrap(), value));
+    let value = |f: u8, value: &FieldValue| result(Validator::validate_field_value(Field::from_number(f).unwrap(), value));
+    let check = |f: u64, content: &[u8]| said(here::check_field(f, content));
+    let text = |s: &str| FieldValue::from_string(s);
+    let nothing = FieldValue::from_binary(Vec::new());
+    let mut other = |entry: &str, input: &str, ours: String, theirs: String, a: &str, b: &str| list.other(entry, input, ours, theirs, a, b);
+    other("Validation 5", "field 52 nothing", check(52, b""), format(52, &nothing), "refused 12 field 52 at 0", "good");
+    other("Validation 6", "field 4 `1`", check(4, b"1"), value(4, &text("1")), "refused 12 field 4 at 0", "good");
+    let spaced = "4111 1111 1111 1111";
+    other("Validation 6", "field 2 with spaces", check(2, spaced.as_bytes()), value(2, &text(spaced)), "refused 16 field 2 at 0", "good");
+    let theirs = format(66, &text("1"));
+    other("Validation 7", "field 66 `1`", check(66, b"1"), theirs, "good", "Field 66 length mismatch: expected 10, got 1");
+    let theirs = format(28, &text("C00000000"));
+    other(
+        "Validation 7",
+        "field 28 `C00000000`",
+        check(28, b"C00000000"),
+        theirs,
+        "good",
+        "Invalid value for field 28: Field must be numeric",
+    );
+    other("Validation 8", "field 1 nothing", check(1, b""), format(1, &nothing), "refused 10 field 1 at 0", "good");
+    other("Validation 8", "field 65 nothing", check(65, b""), format(65, &nothing), "refused 10 field 65 at 0", "good");
+}
+
+fn exact(values: &[u8], notes: &[u8]) -> Vec<u8> {
+    let mut out = [0; 64];
+    let n = here::write_exact(values, notes, &mut out).length as usize;
+    out[..n].to_vec()
+}
+
+fn said(v: here::Verdict) -> String {
+    if v.number == 0 {
+        "good".into()
+    } else {
+        format!("refused {} field {} at {}", v.number, v.field, v.position)
+    }
+}
+
+fn result(r: iso8583_core::error::Result<()>) -> String {
+    r.map_or_else(|e| e.to_string(), |()| "good".into())
+}
