@@ -196,15 +196,19 @@ fn look_up_answer(message: &[u8]) -> Answer {
     Answer::Fields(fields)
 }
 
-/// The end note must say the length to be written. It is the one that the table gives, padding counted.
-fn written(contents: &Contents, write: impl Fn(&[u8], &[u8], &mut [u8]) -> (Output, [u64; 3])) -> Answer {
+/// The length to be written, which the end note must say: by the table, padding counted.
+pub fn length_of(contents: &Contents) -> usize {
     let count = contents.fields.iter().map(|(f, _)| (*f as usize - 1) / 64 + 1).max().unwrap_or(1);
     let size_of = |(f, content): &(u8, Vec<u8>)| match crate::table::row(*f) {
         Some(r) if r.width == 0 => r.most,
         Some(r) => r.width + content.len(),
         None => 0,
     };
-    let length = 4 + 8 * count + contents.fields.iter().map(size_of).sum::<usize>();
+    4 + 8 * count + contents.fields.iter().map(size_of).sum::<usize>()
+}
+
+fn written(contents: &Contents, write: impl Fn(&[u8], &[u8], &mut [u8]) -> (Output, [u64; 3])) -> Answer {
+    let length = length_of(contents);
     let (values, notes) = notes::of(contents, length);
     let mut padded = [0; 3];
     let answer = output(length + 4, |out| {

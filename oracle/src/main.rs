@@ -1,8 +1,10 @@
 //! Runs this library beside the Rust crate iso8583-core 0.1.0. See README.md.
+mod bench;
 mod case;
 mod compare;
 mod here;
 mod inputs;
+mod memory;
 mod notes;
 mod outside;
 mod random;
@@ -29,13 +31,30 @@ fn main() -> ExitCode {
             _ => ExitCode::FAILURE,
         },
         Some("compare") => compare(number("--seed", 8583), number("--rounds", 1) as usize),
+        Some("memory") => {
+            memory::run(number("--seed", 8583));
+            ExitCode::SUCCESS
+        }
+        Some("bench") => {
+            bench::run();
+            ExitCode::SUCCESS
+        }
+        Some("names") => {
+            bench::names().iter().for_each(|(work, side)| println!("{work}\t{side}"));
+            ExitCode::SUCCESS
+        }
+        Some("repeat") => {
+            let times = words.get(3).and_then(|n| n.parse().ok()).expect("a number");
+            bench::repeat(&words[1], &words[2], times);
+            ExitCode::SUCCESS
+        }
         Some("sample") => {
             let folder = words.get(1).expect("the folder for stdin and stdout");
             sample::write(folder.as_ref(), number("--seed", 8583), &Domain::of_the_crate()).expect("the folder can be written");
             ExitCode::SUCCESS
         }
         _ => {
-            eprintln!("usage: oracle compare [--seed N] [--rounds N] | outside | sample FOLDER [--seed N]");
+            eprintln!("usage: oracle compare | outside | sample FOLDER | bench | names | repeat WORK SIDE N | memory; see README.md");
             ExitCode::FAILURE
         }
     }
