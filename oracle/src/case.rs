@@ -29,6 +29,8 @@ pub enum Case {
     Pan(Vec<u8>),
     /// Whether the content is of the field's class; its length is not looked at.
     Class(u8, Vec<u8>),
+    /// The whole check of a field: class, length, then the PAN or the zero rule.
+    Field(u8, Vec<u8>),
     Date(Vec<u8>),
     Time(Vec<u8>),
     Required(Contents),
@@ -40,7 +42,7 @@ pub enum Case {
     EbcdicDecode(Vec<u8>),
 }
 
-pub const KINDS: [&str; 15] = [
+pub const KINDS: [&str; 16] = [
     "reading",
     "lookup",
     "cleaning",
@@ -56,6 +58,7 @@ pub const KINDS: [&str; 15] = [
     "BCD decoding",
     "EBCDIC encoding",
     "EBCDIC decoding",
+    "field check",
 ];
 
 /// Why an input is refused, as far as both sides can say it.
@@ -69,6 +72,8 @@ pub enum Why {
     Class,
     /// 17.
     Pan,
+    /// 18.
+    Zero,
     /// 19, with the field.
     Missing(u64),
     /// 20.
@@ -130,6 +135,7 @@ impl Case {
             Case::BcdDecode(..) => 12,
             Case::EbcdicEncode(_) => 13,
             Case::EbcdicDecode(_) => 14,
+            Case::Field(..) => 15,
         }
     }
 
@@ -141,6 +147,7 @@ impl Case {
             Case::Exact(c) => writable(c, &domain.cleaning, true),
             Case::Pan(content) => is_utf8(content),
             Case::Class(number, content) => domain.class.contains(number) && is_utf8(content),
+            Case::Field(number, content) => domain.class.contains(number) && domain.cleaning.contains(number) && is_utf8(content),
             Case::Date(content) | Case::Time(content) => content.is_ascii() && !content.contains(&b'+'),
             Case::Required(c) => are_digits(&c.mti),
             Case::LengthEncode(length, digits, _) => matches!(digits, 2 | 3) && *length < 10u64.pow(*digits as u32),
@@ -266,7 +273,7 @@ impl fmt::Display for Case {
                 }
             }
             Case::Clean(c) | Case::Exact(c) | Case::Required(c) => write!(f, "{c}"),
-            Case::Class(number, content) => write!(f, "field {number} {}", shown(content)),
+            Case::Class(number, content) | Case::Field(number, content) => write!(f, "field {number} {}", shown(content)),
             Case::LengthEncode(length, digits, encoding) => write!(f, "{length} in {digits} digits, {encoding:?}"),
             Case::LengthDecode(source, digits, encoding) => write!(f, "{} as {digits} digits, {encoding:?}", shown(source)),
             Case::BcdDecode(source, digits) => write!(f, "{} for {digits} digits", shown(source)),

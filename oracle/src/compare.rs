@@ -91,6 +91,7 @@ fn smaller(case: &Case) -> Vec<Case> {
         Case::Required(c) => smaller_contents(c).into_iter().map(Case::Required).collect(),
         Case::Pan(b) => of(b, &Case::Pan),
         Case::Class(f, b) => of(b, &|b| Case::Class(*f, b)),
+        Case::Field(f, b) => of(b, &|b| Case::Field(*f, b)),
         Case::Date(b) => of(b, &Case::Date),
         Case::Time(b) => of(b, &Case::Time),
         Case::LengthEncode(n, d, e) => (0..*n).map(|n| Case::LengthEncode(n, *d, *e)).collect(),

@@ -145,6 +145,7 @@ pub fn answer(case: &Case) -> Answer {
             v if v.number == 16 => verdict(v),
             _ => Answer::Good,
         },
+        Case::Field(number, content) => verdict(check_field(*number as u64, content)),
         Case::Date(content) => verdict(check_date(content)),
         Case::Time(content) => verdict(check_time(content)),
         Case::Required(c) => {
@@ -247,6 +248,7 @@ fn verdict(v: Verdict) -> Answer {
         7 | 12 => Why::Long,
         16 => Why::Class,
         17 => Why::Pan,
+        18 => Why::Zero,
         19 => Why::Missing(v.field),
         20 => Why::DateOrTime,
         21 | 22 => Why::Digits,

@@ -175,6 +175,27 @@ pub fn classes(random: &mut Random, rounds: usize, fields: &[u8], to: Sink) {
     }
 }
 
+/// Digits of every length up to two over the field's, zeros, numbers that pass the PAN check, and damaged copies.
+pub fn field_checks(random: &mut Random, rounds: usize, fields: &[u8], to: Sink) {
+    for f in fields {
+        for n in 0..=row(*f).unwrap().most + 2 {
+            let zeros = vec![b'0'; n];
+            for at in 0..n {
+                let mut one = zeros.clone();
+                one[at] = random.digit();
+                to(Case::Field(*f, one));
+            }
+            to(Case::Field(*f, zeros));
+            for _ in 0..rounds * 50 {
+                let digits = random.bytes(n.saturating_sub(1), Random::digit);
+                let digits = if n == 0 { digits } else { with_check_digit(digits) };
+                to(Case::Field(*f, damaged(random, &digits)));
+                to(Case::Field(*f, digits));
+            }
+        }
+    }
+}
+
 /// Every MTI with every set of the fields that may be required; then beside other fields.
 pub fn required(random: &mut Random, rounds: usize, to: Sink) {
     let mut contents = |mti: usize, fields: Vec<u8>| {

@@ -85,6 +85,7 @@ fn compare(seed: u64, rounds: usize) -> ExitCode {
     part("dates and times", &mut |to| inputs::dates_and_times(random, rounds, to));
     part("PANs", &mut |to| inputs::pans(random, rounds, to));
     part("classes", &mut |to| inputs::classes(random, rounds, &class, to));
+    part("field checks", &mut |to| inputs::field_checks(random, rounds, &class, to));
     part("required fields", &mut |to| inputs::required(random, rounds, to));
     part("messages", &mut |to| inputs::messages(random, rounds, &reading, to));
     part("writings", &mut |to| inputs::writings(random, rounds, &cleaning, to));

@@ -41,7 +41,7 @@ impl Watch {
         match case {
             Case::Read(message) | Case::LookUp(message) => self.message(message),
             Case::Clean(c) | Case::Exact(c) | Case::Required(c) => self.contents(c),
-            Case::Pan(s) | Case::Date(s) | Case::Time(s) | Case::Class(_, s) => self.content(s),
+            Case::Pan(s) | Case::Date(s) | Case::Time(s) | Case::Class(_, s) | Case::Field(_, s) => self.content(s),
             Case::BcdEncode(s) | Case::BcdDecode(s, _) | Case::EbcdicEncode(s) | Case::EbcdicDecode(s) => self.source(s),
             Case::LengthEncode(n, digits, e) => self.offered(3, |out| here::length_encode(*n, *digits, *e, out)),
             Case::LengthDecode(s, digits, e) => {

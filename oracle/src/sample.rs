@@ -22,6 +22,7 @@ pub fn write(folder: &Path, seed: u64, domain: &Domain) -> std::io::Result<()> {
     inputs::dates_and_times(random, 1, to);
     inputs::pans(random, 1, to);
     inputs::classes(random, 1, &domain.class, to);
+    inputs::field_checks(random, 1, &domain.class, to);
     inputs::required(random, 1, to);
     inputs::messages(random, 1, &domain.reading, to);
     inputs::writings(random, 1, &domain.cleaning, to);
@@ -75,6 +76,7 @@ fn spelt(case: &Case) -> Option<(char, u64, Vec<u8>)> {
         }
         Case::Pan(content) => ('p', 0, content.clone()),
         Case::Class(f, content) => ('k', *f as u64, content.clone()),
+        Case::Field(f, content) => ('f', *f as u64, content.clone()),
         Case::Date(content) => ('d', 0, content.clone()),
         Case::Time(content) => ('t', 0, content.clone()),
         Case::LengthEncode(n, digits, e) => ('l', *digits, vec![*e as u8, (n >> 8) as u8, *n as u8]),
@@ -103,6 +105,7 @@ fn sort(case: &Case, letter: char, answer: &Answer) -> (String, usize) {
         Case::Clean(c) | Case::Exact(c) => (format!("many {}", c.fields.len()), 20),
         Case::Required(c) => (format!("{:?}", &c.mti[1..3]), 1),
         Case::Class(f, content) => (format!("{f} {}", content.len().min(3)), 1),
+        Case::Field(f, content) => (format!("{f} {}", content.len()), 1),
         Case::Date(s) | Case::Time(s) => {
             let date: &[&[u8]] = &[b"00", b"01", b"12", b"13", b"31", b"32"];
             let time: &[&[u8]] = &[b"00", b"23", b"24", b"59", b"60"];
@@ -137,6 +140,7 @@ fn spelt_length(source: &[u8]) -> u64 {
 fn said(case: &Case, answer: &Answer) -> String {
     match answer {
         Answer::Good => "good".into(),
+        Answer::Refused(why, _) if matches!(case, Case::Field(..)) => format!("refused {}", number(why)),
         Answer::Bytes(bytes) => hex(bytes),
         Answer::Number(n) => n.to_string(),
         Answer::Message(used, bitmaps, fields) => {
@@ -152,6 +156,17 @@ fn said(case: &Case, answer: &Answer) -> String {
         Answer::Refused(Why::Missing(f), _) => format!("refused {f}"),
         Answer::Refused(..) => "refused".into(),
         _ => panic!("no answer of the domain"),
+    }
+}
+
+/// The refusal number of a field check.
+fn number(why: &Why) -> u8 {
+    match why {
+        Why::Class => 16,
+        Why::Long => 12,
+        Why::Pan => 17,
+        Why::Zero => 18,
+        _ => panic!("no refusal of a field check"),
     }
 }
 

@@ -15,6 +15,7 @@ pub fn answer(case: &Case) -> Answer {
         Case::Clean(c) | Case::Exact(c) => write(c),
         Case::Pan(content) => verdict(Validator::validate_pan(text(content)), Why::Pan),
         Case::Class(number, content) => class(*number, content),
+        Case::Field(number, content) => field(*number, content),
         Case::Date(content) => verdict(Validator::validate_date_mmdd(text(content)), Why::DateOrTime),
         Case::Time(content) => verdict(Validator::validate_time_hhmmss(text(content)), Why::DateOrTime),
         Case::Required(c) => match Validator::validate_required_fields(&message_of(c)) {
@@ -129,6 +130,24 @@ fn class(number: u8, content: &[u8]) -> Answer {
     match Validator::validate_field_format(Field::from_number(number).unwrap(), &value) {
         Err(Error::InvalidFieldValue { reason, .. }) if reason.starts_with("Field must be") => Answer::Refused(Why::Class, reason),
         _ => Answer::Good,
+    }
+}
+
+/// The crate's two calls, the format first; either may refuse for the length.
+fn field(number: u8, content: &[u8]) -> Answer {
+    let value = FieldValue::from_string(text(content));
+    let field = Field::from_number(number).unwrap();
+    let why = |e: &Error| match e {
+        Error::FieldLengthMismatch { .. } => Why::Long,
+        Error::LuhnCheckFailed => Why::Pan,
+        Error::InvalidFieldValue { reason, .. } if reason.starts_with("Field exceeds") => Why::Long,
+        Error::InvalidFieldValue { reason, .. } if reason.starts_with("Field must be") => Why::Class,
+        Error::InvalidFieldValue { reason, .. } if reason.ends_with("cannot be zero") => Why::Zero,
+        _ => Why::Other,
+    };
+    match Validator::validate_field_format(field, &value).and_then(|()| Validator::validate_field_value(field, &value)) {
+        Ok(()) => Answer::Good,
+        Err(e) => Answer::Refused(why(&e), e.to_string()),
     }
 }
 

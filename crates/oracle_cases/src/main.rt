@@ -84,6 +84,7 @@ fn print_answer(kind: u8, argument: usize, input: &[u8]) {
         b'd' => print_check(validation_dates::check_date(input)),
         b't' => print_check(validation_dates::check_time(input)),
         b'k' => print_class(validation_field::field_fault(argument, input)),
+        b'f' => print_fault(validation_field::field_fault(argument, input)),
         b'q' => print_required(argument, input),
         _ => print_conversion(kind, argument, input),
     }
@@ -248,6 +249,15 @@ fn print_class(fault: u8) {
         return;
     }
     print(b"good");
+}
+
+fn print_fault(fault: u8) {
+    if fault == 0 {
+        print(b"good");
+        return;
+    }
+    print(b"refused ");
+    print_number(octets::wide(fault) as u64);
 }
 
 fn print_hex(bytes: &[u8]) {
