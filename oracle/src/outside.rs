@@ -40,6 +40,16 @@ impl List<'_> {
         }
     }
 
+    /// What concerns the crate alone.
+    fn there(&mut self, entry: &str, input: &str, theirs: String, there_listed: &str) {
+        self.count += 1;
+        println!("  {entry}: {input}\n    there: {theirs}");
+        if theirs != there_listed {
+            println!("    NOT AS LISTED: there {there_listed}");
+            self.wrong += 1;
+        }
+    }
+
     fn other(&mut self, entry: &str, input: &str, ours: String, theirs: String, here_listed: &str, there_listed: &str) {
         self.count += 1;
         println!("  {entry}: {input}\n    here:  {ours}\n    there: {theirs}");
@@ -145,6 +155,8 @@ fn fields(list: &mut List) {
         "good",
         "the entry of 64: Binary Fixed(8)",
     );
+    let others = crate::table::ranges(&Domain::disagreeing());
+    list.there("Field 1", "fields not of 01's length kind, length and nature", others, "28-31, 56-64, 66-88, 90-104, 116-118, 120, 128");
     list.case(
         "Field 1",
         Case::Read(with_bits(&[56], b"000")),

@@ -62,7 +62,6 @@ impl Domain {
     /// 01: "fields whose length kind, length and binary or text nature in `field.rs` agree with our table"; for reading those that one
     /// bitmap holds ("bit 1 clear"), for cleaning "exactly the `n` fields typed Numeric there".
     pub fn of_the_crate() -> Domain {
-        let agreeing = |f: &u8| shape(*f) == row(*f).map(|r| (r.width, r.most, r.class == B));
         let alike = |f: &u8| numeric(*f) == (row(*f).map(|r| r.class) == Some(N));
         let fields = || (2..=128u8).filter(|f| *f != 65);
         Domain {
@@ -70,6 +69,11 @@ impl Domain {
             cleaning: fields().filter(|f| agreeing(f) && alike(f)).collect(),
             class: fields().filter(|f| numeric(*f) && alike(f)).collect(),
         }
+    }
+
+    /// The fields that the crate has in another shape.
+    pub fn disagreeing() -> Vec<u8> {
+        (2..=128).filter(|f| *f != 65 && !agreeing(f)).collect()
     }
 
     /// What docs/DECISIONS.md D1, D3 and D4 say these fields are.
@@ -80,6 +84,10 @@ impl Domain {
             class: numbers(&[(2, 27), (32, 33), (53, 53), (66, 82), (89, 89)]),
         }
     }
+}
+
+fn agreeing(number: &u8) -> bool {
+    shape(*number) == row(*number).map(|r| (r.width, r.most, r.class == B))
 }
 
 /// What the crate answers of a field: the count of length digits, the length, whether it is binary.
