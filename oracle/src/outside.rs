@@ -13,6 +13,7 @@ use std::panic::catch_unwind;
 pub fn run(domain: &Domain) -> usize {
     let mut list = List { domain, wrong: 0, count: 0 };
     println!("outside the domain:");
+    everywhere(&mut list);
     bitmaps(&mut list);
     encodings(&mut list);
     fields(&mut list);
@@ -40,12 +41,12 @@ impl List<'_> {
         }
     }
 
-    /// What concerns the crate alone.
-    fn there(&mut self, entry: &str, input: &str, theirs: String, there_listed: &str) {
+    /// What can be asked of one side only.
+    fn alone(&mut self, entry: &str, input: &str, side: &str, said: String, listed: &str) {
         self.count += 1;
-        println!("  {entry}: {input}\n    there: {theirs}");
-        if theirs != there_listed {
-            println!("    NOT AS LISTED: there {there_listed}");
+        println!("  {entry}: {input}\n    {:<6} {said}", format!("{side}:"));
+        if said != listed {
+            println!("    NOT AS LISTED: {listed}");
             self.wrong += 1;
         }
     }
@@ -78,16 +79,27 @@ fn hex(bytes: &[u8]) -> String {
     said.join(" ")
 }
 
+fn everywhere(list: &mut List) {
+    let eleven = b"0800\0\0\0\0\0\0\0".to_vec();
+    let (ours, theirs) = (here::answer(&Case::Read(eleven.clone())).to_string(), there::answer(&Case::Read(eleven)).to_string());
+    let short = "Message too short: expected at least 12 bytes, got 11";
+    list.other("Everywhere 1", "a message of eleven bytes", ours, theirs, "refused 2 field 0 at 0", short);
+    let ours = said(here::bcd_encode(b"1", &mut []).verdict);
+    let theirs = there::answer(&Case::BcdEncode(b"1".to_vec())).to_string();
+    list.other("Everywhere 2", "BCD encoding of `1`; here without room", ours, theirs, "refused 14 field 0 at 0", "01");
+    let ours = said(here::bcd_encode(b"\xFF", &mut [0; 4]).verdict);
+    list.alone("Everywhere 3", "BCD encoding of FF", "here", ours, "refused 21 field 0 at 0");
+    let ours = said(here::ebcdic_encode(b"\xFF", &mut [0; 4]).verdict);
+    list.alone("Everywhere 3", "EBCDIC encoding of FF", "here", ours, "refused 24 field 0 at 0");
+}
+
 fn bitmaps(list: &mut List) {
-    let mut bitmap = Bitmap::new();
-    bitmap.set(1).unwrap();
-    let listed = format!("{:?}", &bitmap.get_set_fields().0[..bitmap.get_set_fields().1]);
-    bitmap.clear(1).unwrap();
-    let (bytes, n) = bitmap.to_bytes();
-    let two = exact(b"", b"\x010800\x02\x04\x00\x00\x00\x14");
-    let sixteen = "00 00 00 00 00 00 00 00 00 00 00 00 00 00 00 00";
-    let first_set = format!("80{}", &sixteen[2..]);
-    list.other("Bitmap 1", "set(1), clear(1); here two bitmaps without fields", hex(&two[4..]), hex(&bytes[..n]), &first_set, sixteen);
+    let zeros = "00 00 00 00 00 00 00 00";
+    let first = "80 00 00 00 00 00 00 00";
+    let two = b"\x010800\x02\x04\x00\x00\x00\x14";
+    let three = b"\x010800\x03\x04\x00\x00\x00\x1C";
+    bitmap(list, 1, two, &format!("{first} {zeros}"), &format!("{zeros} {zeros}"), "[1]");
+    bitmap(list, 65, three, &format!("{first} {first} {zeros}"), &format!("{first} {zeros} {zeros}"), "[1, 65]");
 
     let alone = Bitmap::from_bytes(b"\x80\0\0\0\0\0\0\0").unwrap();
     let (bytes, n) = alone.to_bytes();
@@ -100,12 +112,29 @@ fn bitmaps(list: &mut List) {
         "refused 4 field 0 at 12",
         "80 00 00 00 00 00 00 00",
     );
+}
 
-    let mut notes = [0; notes::ROOM];
-    let message = with_bits(&[1], &[0; 8]);
-    here::read(&message, &mut notes);
-    let found = here::look_up(&message, &notes, 1).verdict.number;
-    list.other("Bitmap 3", "set(1), get_set_fields; here lookup of 1", format!("refused {found}"), listed, "refused 15", "[1]");
+/// The bit that asks for one more bitmap; here in a message with so many bitmaps and no field, by those notes.
+fn bitmap(list: &mut List, bit: u8, notes: &[u8], ours_listed: &str, cleared_listed: &str, fields_listed: &str) {
+    let mut bitmap = Bitmap::new();
+    bitmap.set(bit).unwrap();
+    let (fields, n) = bitmap.get_set_fields();
+    let message = exact(b"", notes);
+    let found = said(here::look_up(&message, notes, bit as u64).verdict);
+    let absent = format!("refused 15 field {bit} at 6");
+    list.other(
+        "Bitmap 3",
+        &format!("set({bit}), get_set_fields; here lookup"),
+        found,
+        format!("{:?}", &fields[..n]),
+        &absent,
+        fields_listed,
+    );
+
+    bitmap.clear(bit).unwrap();
+    let (bytes, n) = bitmap.to_bytes();
+    let input = format!("set({bit}), clear({bit}), to_bytes; here a message without fields");
+    list.other("Bitmap 1", &input, hex(&message[4..]), hex(&bytes[..n]), ours_listed, cleared_listed);
 }
 
 fn encodings(list: &mut List) {
@@ -156,7 +185,8 @@ fn fields(list: &mut List) {
         "the entry of 64: Binary Fixed(8)",
     );
     let others = crate::table::ranges(&Domain::disagreeing());
-    list.there("Field 1", "fields not of 01's length kind, length and nature", others, "28-31, 56-64, 66-88, 90-104, 116-118, 120, 128");
+    let shifted = "28-31, 56-64, 66-88, 90-104, 116-118, 120, 128";
+    list.alone("Field 1", "fields not of 01's length kind, length and nature", "there", others, shifted);
     list.case(
         "Field 1",
         Case::Read(with_bits(&[56], b"000")),
@@ -176,9 +206,18 @@ fn fields(list: &mut List) {
         "`0800` 80 00 00 00 00 00 00 00 00 00 00 00 80 00 00 00 `C0000000000000001`",
         "`0800` 80 00 00 00 00 00 00 00 00 00 00 00 80 00 00 00 `017C0000000000000001`",
     );
-    let number = |n: u8| Field::from_number(n).map_or_else(|e| e.to_string(), |f| f.definition().name.into());
+    let types =
+        [34, 36, 44, 45, 46, 47, 48, 49, 50, 51, 54].map(|n| format!("{n} {:?}", Field::from_number(n).unwrap().definition().field_type));
+    let listed = "34 Numeric, 36 Track3, 44 AlphaNumericSpecial, 45 AlphaNumericSpecial, 46 AlphaNumericSpecial, 47 AlphaNumericSpecial, \
+                  48 AlphaNumericSpecial, 49 AlphaNumeric, 50 AlphaNumeric, 51 AlphaNumeric, 54 AlphaNumericSpecial";
+    list.alone("Field 5", "the types of 34, 36, 44-51 and 54", "there", types.join(", "), listed);
+    let number = |n: u8| {
+        Field::from_number(n).map_or_else(|e| e.to_string(), |f| format!("{:?} {:?}", f.definition().field_type, f.definition().length))
+    };
     list.other("Field 6", "field 129; here nothing in it", check(129, b""), number(129), "good", "Invalid field number: 129");
-    list.other("Field 7", "field 1; here nothing in it", check(1, b""), number(1), "refused 10 field 1 at 0", "Secondary Bitmap");
+    list.other("Field 6", "field 192; here eight bytes in it", check(192, &[0; 8]), number(192), "good", "Invalid field number: 192");
+    list.other("Field 7", "field 1; here nothing in it", check(1, b""), number(1), "refused 10 field 1 at 0", "Binary Fixed(8)");
+    list.other("Field 7", "field 65; here nothing in it", check(65, b""), number(65), "refused 10 field 65 at 0", "Numeric Fixed(6)");
 }
 
 fn reading(list: &mut List) {
@@ -203,6 +242,8 @@ fn reading(list: &mut List) {
     let twelve = "`0800` 80 00 00 00 00 00 00 00";
     let twenty = format!("{twelve} 00 00 00 00 00 00 00 00");
     list.other("Message 7", "`0800` 80 and 15 zero bytes, read and written", ours, theirs, &twenty, twelve);
+    let again = there::answer(&Case::Read(with_bits(&[1], b""))).to_string();
+    list.alone("Message 7", "what was written, read again", "there", again, "Message too short: expected at least 20 bytes, got 12");
 }
 
 fn cleaning(list: &mut List) {
@@ -236,6 +277,9 @@ fn cleaning(list: &mut List) {
     kind("field 52 `A`, there as text", 52, b"A", text, "`A` 00 00 00 00 00 00 00", "`A       `");
     let binary = FieldValue::from_binary(b"1".to_vec());
     kind("field 3 `1`, there as binary", 3, b"1", binary, "`000001`", "`1` 00 00 00 00 00");
+
+    let ours = here::answer(&Case::Clean(one(3, b"1"))).to_string();
+    list.alone("Message 15", "field 3 `1`", "here", ours, "`0800 ` 00 00 00 00 00 00 00 `000001`, padded 3");
 }
 
 fn validation(list: &mut List) {
