@@ -23,7 +23,7 @@ pub fn width_of(number: usize) -> usize
     if 192 < number {
         return 0;
     }
-    WIDTH[number]
+    octets::wide(WIDTH[number])
 }
 
 // The length of field number where it is fixed, else its greatest length. 0 where there is no such field.
@@ -33,7 +33,7 @@ pub fn most_of(number: usize) -> usize
     if 192 < number {
         return 0;
     }
-    MOST[number]
+    MOST[number] as usize
 }
 
 // The class of field number; b where there is no such field.
@@ -78,8 +78,9 @@ fn class_by_code(code: u8) -> Class
     }
 }
 
-// By number, from 0 to 192: shown to be the house table at each.
-const WIDTH: [usize; 193] = [
+// By number, from 0 to 192: shown to be the house table at each. In as few bytes as their entries need, since a constant array is laid
+// down anew wherever it is looked into.
+const WIDTH: [u8; 193] = [
     0,
     0,
     2,
@@ -275,7 +276,7 @@ const WIDTH: [usize; 193] = [
     0,
 ];
 
-const MOST: [usize; 193] = [
+const MOST: [u16; 193] = [
     0,
     0,
     19,
