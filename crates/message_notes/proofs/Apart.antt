@@ -1,15 +1,15 @@
 -- Two readings with the same notes are one reading. Assumes nothing.
-use Prim.Native.Nat.{ℕ, zero, suc, _+_, _-_, _*_, _≤_, _<_}
+use Prim.Native.Nat.{ℕ, _+_, _-_, _<_}
 use mathlib.Core.Path.{_≡_, refl, sym, ap, _∙_}
 use mathlib.Core.List.{List, [], _∷_, _++_, append-assoc}
 use native.Mathlib.Omega.{arith}
-use lib.ListN.{length, take, drop, length-append}
+use lib.ListN.{length, take, drop}
 use lib.Seq.{take-at, drop-at}
 use Rattle.octets.specs.Numbers.{bigEndian, bigEndianOf}
 use Rattle.octets.proofs.Numbers.{number-digits}
-use Rattle.message_language.specs.Language.{Entry, entry, Reading}
+use Rattle.message_language.specs.Language.{Entry, Reading}
 use Rattle.message_notes.specs.declared.Note.{Note}
-use Rattle.message_notes.specs.declared.Note.the-variants.{Field, End, Malformed}
+use Rattle.message_notes.specs.declared.Note.the-variants.{Field, End}
 use Rattle.message_notes.specs.Notes.{headNote, fieldNote, endNote, fieldNotes, notesOf, noteAt}
 use Rattle.message_notes.proofs.Sizes.{bytes-long, field-long}
 use Rattle.message_notes.proofs.Spelling.{Fits, AllFit}

@@ -1,20 +1,20 @@
 -- Reading a note: the ends of its readers with the facts as the code has them, and that what was written is read back. Assumes nothing.
-use Prim.Native.Nat.{ℕ, zero, suc, _+_, _-_, _*_, _≤_, _<_}
+use Prim.Native.Nat.{ℕ, _+_, _-_, _≤_, _<_}
 use mathlib.Core.Path.{_≡_, refl, sym, ap, _∙_}
-use mathlib.Core.Bool.{Bool, true, false, cond}
-use mathlib.Core.List.{List, [], _∷_, _++_, append-assoc}
+use mathlib.Core.Bool.{cond}
+use mathlib.Core.List.{List, [], _∷_, _++_}
 use native.Mathlib.Omega.{arith}
-use lib.Dec.{eqb, ltb, leb}
+use lib.Dec.{leb}
 use lib.ListN.{length, take, drop, getD, length-append, length-take, length-drop}
-use lib.Seq.{take-at, drop-at, drop-drop, take-append-le, drop-append-le, take-append-seam}
+use lib.Seq.{take-at, take-append-le, drop-append-le}
 use borrow.Author.Tests.{eq-eqb, ne-eqb, lt-ltb, le-ltb, le-leb}
 use Rattle.octets.specs.Numbers.{bigEndian, bigEndianOf}
 use Rattle.octets.proofs.Numbers.{number-digits}
-use Rattle.message_language.specs.Language.{Entry, entry}
+use Rattle.message_language.specs.Language.{Entry}
 use Rattle.message_notes.specs.declared.Note.{Note}
 use Rattle.message_notes.specs.declared.Note.the-variants.{Field, End, Malformed}
 use Rattle.message_notes.specs.Notes.{fieldNote, endNote, entryOf, fieldNoteAt, endNoteAt, noteAt, fieldKind, endKind, fieldNoteSize, endSize}
-use Rattle.message_notes.proofs.Sizes.{bytes-long, field-long, end-long}
+use Rattle.message_notes.proofs.Sizes.{bytes-long, field-long}
 use Rattle.message_notes.proofs.Spelling.{Fits, entry-back}
 
 -- the ends of `read_note`

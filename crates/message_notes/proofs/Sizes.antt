@@ -1,13 +1,13 @@
 -- How long notes are. Assumes nothing.
-use Prim.Native.Nat.{ℕ, _+_, _*_, _≤_, _<_}
-use mathlib.Core.Path.{_≡_, refl, sym, ap, _∙_}
+use Prim.Native.Nat.{ℕ, _+_, _*_}
+use mathlib.Core.Path.{_≡_, refl}
 use mathlib.Core.List.{List, [], _∷_, _++_}
 use native.Mathlib.Omega.{arith}
 use lib.ListN.{length, length-append}
 use Rattle.octets.specs.Numbers.{bigEndian}
 use Rattle.octets.proofs.Numbers.{digits-length}
 use Rattle.message_language.specs.Language.{Entry, Reading}
-use Rattle.message_notes.specs.Notes.{headNote, fieldNote, endNote, fieldNotes, notesOf, notesRoom}
+use Rattle.message_notes.specs.Notes.{headNote, fieldNote, endNote, fieldNotes, notesOf}
 
 pub bytes-long : (w n : ℕ) → length (bigEndian w n) ≡ w
 bytes-long w n = digits-length 256 0 w n

@@ -1,15 +1,15 @@
 -- Notes spell the entries that they were written from. Assumes nothing.
-use Prim.Native.Nat.{ℕ, zero, suc, _+_, _-_, _*_, _^_, _≤_, _<_}
+use Prim.Native.Nat.{ℕ, zero, suc, _+_, _-_, _*_, _<_}
 use mathlib.Core.Path.{_≡_, refl, sym, ap, _∙_}
 use mathlib.Core.List.{List, [], _∷_, _++_, append-assoc}
-use mathlib.Core.Option.{Option, some, none}
+use mathlib.Core.Option.{some}
 use native.Mathlib.Omega.{arith}
-use lib.ListN.{length, take, drop, getElem?, length-append}
-use lib.Seq.{take-at, drop-at, drop-drop, take-append-seam}
+use lib.ListN.{length, take, drop, getElem?}
+use lib.Seq.{take-at, drop-at, drop-drop}
 use Rattle.octets.specs.Numbers.{bigEndian, bigEndianOf}
 use Rattle.octets.proofs.Numbers.{number-digits}
-use Rattle.message_language.specs.Language.{Entry, entry}
-use Rattle.message_notes.specs.Notes.{headNote, fieldNote, fieldNotes, entryOf, entryAt, headSize, fieldNoteSize}
+use Rattle.message_language.specs.Language.{Entry}
+use Rattle.message_notes.specs.Notes.{headNote, fieldNote, fieldNotes, entryOf, entryAt}
 use Rattle.message_notes.proofs.Sizes.{bytes-long, head-long, field-long}
 
 -- an entry whose numbers fit in its note

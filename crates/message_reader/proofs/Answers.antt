@@ -1,10 +1,8 @@
 -- The ends of `read`, with the facts as its code has them. Assumes nothing.
 use Prim.Native.Nat.{ℕ, _+_, _*_, _≤_, _<_}
-use mathlib.Core.Path.{_≡_, refl, sym, ap, _∙_}
-use mathlib.Core.Bool.{Bool, true, false, cond}
+use mathlib.Core.Path.{_≡_, sym, _∙_}
 use mathlib.Core.List.{List}
 use native.Mathlib.Omega.{arith}
-use lib.Dec.{ltb}
 use lib.ListN.{length}
 use borrow.Author.Tests.{lt-ltb, le-ltb}
 use Rattle.octets.specs.Lists.{lay}
@@ -14,14 +12,12 @@ use Rattle.refusal.specs.declared.Refusal.{Refusal}
 use Rattle.bitmap.proofs.Maps.{count-most}
 use Rattle.field_table.specs.Table.{Table}
 use Rattle.message_notes.specs.Notes.{notesOf, notesRoom}
-use Rattle.message_reader.specs.declared.HeadRead.{HeadRead}
 use Rattle.message_reader.specs.declared.HeadRead.the-variants.{Bitmaps, Refused as HeadRefused}
-use Rattle.message_reader.specs.declared.FieldsRead.{FieldsRead}
 use Rattle.message_reader.specs.declared.FieldsRead.the-variants.{Used, Refused as FieldsRefused}
 use Rattle.message_reader.specs.declared.ReadAnswer.{ReadAnswer}
 use Rattle.message_reader.specs.declared.ReadAnswer.the-variants.{Accepted, Refused}
 use Rattle.message_reader.specs.Reader.{mapsOf, headRead, readBody, readMessage, readingWith, readAnswer, notesAfter}
-use Rattle.message_reader.proofs.Heads.{Headed, head-found}
+use Rattle.message_reader.proofs.Heads.{head-found}
 use Rattle.message_reader.proofs.Language.{message-head-refused, message-refused, message-read}
 
 -- what a head that is read says of its bitmaps

@@ -1,13 +1,10 @@
 -- Demand 3's reading half holds, over any table of small lengths, and of the house table. Assumes nothing.
-use Prim.Native.Nat.{ℕ, _+_, _*_, _≤_, _<_}
+use Prim.Native.Nat.{ℕ, _+_, _≤_}
 use mathlib.Core.Path.{_≡_, refl, sym, ap, _∙_}
-use mathlib.Core.Bool.{Bool, true, false, cond}
-use mathlib.Core.List.{List, [], _∷_, _++_, append-assoc}
-use mathlib.Core.Option.{some}
+use mathlib.Core.List.{List, _++_, append-assoc}
 use native.Mathlib.Omega.{arith}
-use lib.Dec.{ltb}
-use lib.ListN.{length, take, drop, getElem?, length-append, take-append-drop}
-use lib.Seq.{take-at, drop-at, length-take-le}
+use lib.ListN.{length, take, drop, take-append-drop}
+use lib.Seq.{take-at}
 use borrow.Author.Tests.{lt-ltb, le-ltb}
 use Rattle.octets.specs.Lists.{lay}
 use Rattle.octets.proofs.Cases.{by-lt}
@@ -17,7 +14,7 @@ use Rattle.refusal.specs.declared.Refusal.{Refusal}
 use Rattle.field_table.specs.Table.{Table}
 use Rattle.field_table.specs.House.{house}
 use Rattle.field_table.proofs.Rows.{Small, house-small}
-use Rattle.message_language.specs.Language.{Entry, Reading, Message, Begins}
+use Rattle.message_language.specs.Language.{Reading, Begins}
 use Rattle.message_notes.specs.Notes.{headNote, fieldNotes, endNote, notesOf, notesRoom, entryAt}
 use Rattle.message_notes.proofs.Spelling.{entry-at}
 use Rattle.message_notes.proofs.Apart.{notes-apart}

@@ -1,19 +1,15 @@
 -- Reading the fields one after the other: a field at a time, and that it accepts exactly the fields of the language. Assumes nothing.
-use Prim.Native.Nat.{ℕ, _+_, _-_, _*_, _≤_, _<_}
+use Prim.Native.Nat.{ℕ, _+_, _-_, _≤_}
 use mathlib.Core.Path.{_≡_, refl, sym, ap, _∙_}
-use mathlib.Core.Bool.{Bool, true, false, cond}
 use mathlib.Core.List.{List, [], _∷_, _++_, append-assoc}
 use native.Mathlib.Omega.{arith}
-use lib.Dec.{eqb}
-use lib.ListN.{length, take, drop, length-append, length-drop, length-take, take-append-drop}
-use lib.Seq.{length-take-le, take-at, drop-at, drop-drop, take-append-seam, drop-append-seam}
+use lib.ListN.{length, take, drop, length-append, length-drop, take-append-drop}
+use lib.Seq.{length-take-le, take-at, drop-at, drop-drop, take-append-seam}
 use borrow.Author.Tests.{eq-eqb, ne-eqb}
-use Rattle.octets.specs.Lists.{either, all}
-use Rattle.octets.specs.Numbers.{isDigit, isAscii, decimalOf}
-use Rattle.octets.proofs.Cases.{by-bool, by-eq, false-true}
+use Rattle.octets.proofs.Cases.{by-bool, by-eq}
 use Rattle.refusal.specs.Refusals.{refusal}
 use Rattle.field_table.specs.Table.{Table, isBinary}
-use Rattle.field_read.specs.Items.{lengthOf, readItem, readField}
+use Rattle.field_read.specs.Items.{lengthOf, readField}
 use Rattle.field_read.specs.declared.FieldRead.{FieldRead}
 use Rattle.field_read.specs.declared.FieldRead.the-variants.{Content, Refused as FieldRefused}
 use Rattle.field_read.proofs.Found.{Found, found, reads}

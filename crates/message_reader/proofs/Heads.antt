@@ -1,17 +1,16 @@
 -- The head of a message: the ends of its readers with the facts as the code has them, and what it means that a head is read.
 -- Assumes nothing.
 use Prim.Native.Nat.{ℕ, _+_, _-_, _*_, _/_, _≤_, _<_}
-use mathlib.Core.Path.{_≡_, refl, sym, ap, _∙_}
-use mathlib.Core.Bool.{Bool, true, false, cond, not}
+use mathlib.Core.Path.{_≡_, sym, ap, _∙_}
+use mathlib.Core.Bool.{Bool, true, false, not}
 use mathlib.Core.List.{List}
 use native.Mathlib.Omega.{arith}
-use lib.Dec.{ltb, eqb}
-use lib.ListN.{length, take, drop, getD, length-drop}
+use lib.ListN.{length, take, drop}
 use lib.Seq.{getD-take, length-take-le}
-use borrow.Author.Tests.{lt-ltb, le-ltb, ltb-false, eq-eqb, ne-eqb, eqb-true, not-true, not-false}
+use borrow.Author.Tests.{lt-ltb, le-ltb, eq-eqb, eqb-true, not-true, not-false}
 use Rattle.octets.specs.Lists.{all, lead}
 use Rattle.octets.specs.Numbers.{isDigit}
-use Rattle.octets.proofs.Cases.{by-bool, by-lt, by-eq}
+use Rattle.octets.proofs.Cases.{by-bool, by-lt}
 use Rattle.octets.proofs.Lists.{lead-all, lead-most}
 use Rattle.octets.proofs.Parts.{to-end}
 use Rattle.refusal.specs.Numbers.{messageTooShort, mtiNotDigits, bitmapIncomplete}

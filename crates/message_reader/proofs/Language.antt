@@ -1,28 +1,25 @@
 -- The reader accepts exactly the inputs that begin with a message of the language, and there is one such message with one reading.
 -- Assumes nothing.
-use Prim.Native.Nat.{ℕ, _+_, _-_, _*_, _≤_, _<_}
+use Prim.Native.Nat.{ℕ, _+_, _-_, _*_, _≤_}
 use mathlib.Core.Path.{_≡_, refl, sym, ap, _∙_}
-use mathlib.Core.Bool.{Bool, true, false}
-use mathlib.Core.List.{List, [], _∷_, _++_, append-assoc}
+use mathlib.Core.List.{List, _++_, append-assoc}
 use native.Mathlib.Omega.{arith}
-use lib.ListN.{length, take, drop, length-append, length-drop, length-take, take-append-drop}
-use lib.Seq.{length-take-le, take-at, drop-at, drop-drop, take-append-seam, drop-append-seam}
-use Rattle.octets.specs.Lists.{all}
-use Rattle.octets.specs.Numbers.{isDigit}
+use lib.ListN.{length, take, drop, length-append, length-drop, take-append-drop}
+use lib.Seq.{length-take-le, take-at, drop-at, drop-drop}
 use Rattle.refusal.specs.declared.Refusal.{Refusal}
-use Rattle.bitmap.specs.Bitmaps.{countOf, fieldsOf}
+use Rattle.bitmap.specs.Bitmaps.{fieldsOf}
 use Rattle.bitmap.proofs.Maps.{count-most}
 use Rattle.field_table.specs.Table.{Table}
-use Rattle.message_language.specs.Language.{Entry, Fields, Reading, Message, Begins}
+use Rattle.message_language.specs.Language.{Reading, Message, Begins}
 use Rattle.message_reader.specs.declared.HeadRead.{HeadRead}
 use Rattle.message_reader.specs.declared.HeadRead.the-variants.{Bitmaps, Refused as HeadRefused}
 use Rattle.message_reader.specs.declared.FieldsRead.{FieldsRead}
 use Rattle.message_reader.specs.declared.FieldsRead.the-variants.{Used, Refused as FieldsRefused}
 use Rattle.message_reader.specs.declared.ReadAnswer.{ReadAnswer}
 use Rattle.message_reader.specs.declared.ReadAnswer.the-variants.{Accepted, Refused}
-use Rattle.message_reader.specs.Reader.{mapsOf, headRead, readFields, entriesOf, readBody, readMessage, readingWith}
+use Rattle.message_reader.specs.Reader.{mapsOf, headRead, entriesOf, readBody, readMessage, readingWith}
 use Rattle.message_reader.proofs.Heads.{Headed, head-found, head-reads}
-use Rattle.message_reader.proofs.Fields.{Taken, taken, Given, given}
+use Rattle.message_reader.proofs.Fields.{taken, Given, given}
 
 -- the answer, by its two parts
 pub message-head-refused : (t : Table) (s : List ℕ) (r : Refusal) → headRead s ≡ HeadRefused r → readMessage t s ≡ Refused r

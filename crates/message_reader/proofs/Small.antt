@@ -1,22 +1,21 @@
 -- How far the fields of a message reach, over a table of small lengths: every number in a note fits. Assumes nothing.
-use Prim.Native.Nat.{ℕ, zero, suc, _+_, _-_, _*_, _≤_, _<_}
-use mathlib.Core.Path.{_≡_, refl, sym, ap, _∙_}
-use mathlib.Core.Bool.{Bool, true, false, not}
-use mathlib.Core.List.{List, [], _∷_, _++_}
+use Prim.Native.Nat.{ℕ, suc, _+_, _-_, _*_, _≤_, _<_}
+use mathlib.Core.Path.{_≡_, refl, ap}
+use mathlib.Core.Bool.{true}
+use mathlib.Core.List.{List, _++_}
 use native.Mathlib.Omega.{arith}
-use lib.Dec.{eqb}
 use lib.ListN.{length, length-append}
-use Rattle.octets.specs.Lists.{both, all}
+use Rattle.octets.specs.Lists.{all}
 use Rattle.octets.proofs.Cases.{both-left, both-right}
 use Rattle.bitmap.specs.Bitmaps.{isField, fieldsOf}
 use Rattle.bitmap.proofs.Fields.{fields-are, fields-few}
 use Rattle.bitmap.proofs.Maps.{field-high}
 use Rattle.field_table.specs.Table.{Table}
 use Rattle.field_table.proofs.Rows.{Small}
-use Rattle.message_language.specs.Language.{Item, Entry, entry, Fields, none, more, Reading, Message}
+use Rattle.message_language.specs.Language.{Entry, Fields, none, more, Reading, Message}
 use Rattle.message_notes.specs.Notes.{notesOf, notesRoom}
 use Rattle.message_notes.proofs.Sizes.{notes-long}
-use Rattle.message_notes.proofs.Spelling.{Fits, AllFit}
+use Rattle.message_notes.proofs.Spelling.{AllFit}
 
 -- as many entries as fields
 entries-long : (t : Table) {at : ℕ} {fs bs : List ℕ} {es : List Entry} → Fields t at fs bs es → length es ≡ length fs

@@ -6,7 +6,7 @@
 --                u bytes long, has the reading r and at most three bitmaps.
 --
 -- Assumes nothing: these are statements.
-use Prim.Native.Nat.{ℕ, _+_, _*_, _≤_}
+use Prim.Native.Nat.{ℕ, _≤_}
 use mathlib.Core.Path.{_≡_}
 use mathlib.Core.List.{List}
 use mathlib.Core.Option.{some}

@@ -1,20 +1,18 @@
 -- The ends of the writers, with the facts as the code has them. Assumes nothing.
 use Prim.Native.Nat.{ℕ, zero, suc, _+_, _-_, _*_, _≤_, _<_, min}
 use mathlib.Core.Path.{_≡_, refl, sym, ap, _∙_}
-use mathlib.Core.Bool.{Bool, true}
+use mathlib.Core.Bool.{Bool}
 use mathlib.Core.List.{List, _++_, append-assoc}
 use native.Mathlib.Omega.{arith}
-use lib.Dec.{eqb, leb}
-use lib.ListN.{length, take, drop, getD, replicate, length-append, length-drop, length-replicate}
+use lib.ListN.{length, take, replicate, length-append, length-replicate}
 use lib.Seq.{length-take-le}
-use borrow.Author.Tests.{eq-eqb, ne-eqb, le-leb, lt-leb, leb-true}
-use Rattle.octets.specs.Lists.{both, between, all, lay, placed}
-use Rattle.octets.proofs.Cases.{by-bool, by-eq, both-left, both-right}
-use Rattle.octets.proofs.Lists.{between-high, placed-short, placed-fits}
+use borrow.Author.Tests.{eq-eqb, ne-eqb, le-leb, lt-leb}
+use Rattle.octets.specs.Lists.{all, lay, placed}
+use Rattle.octets.proofs.Lists.{placed-short, placed-fits}
 use Rattle.octets.proofs.Parts.{lay-part, placed-part}
 use borrow.Rule.Slice.PartMut.{midOf, putMid}
 use Rattle.refusal.specs.Numbers.{endDiffers, outputTooShort}
-use Rattle.refusal.specs.Refusals.{refusal, plain}
+use Rattle.refusal.specs.Refusals.{refusal}
 use Rattle.refusal.specs.declared.Refusal.{Refusal}
 use Rattle.refusal.specs.declared.Output.{Output}
 use Rattle.refusal.specs.declared.Output.the-variants.{Written, Refused}
@@ -22,13 +20,12 @@ use Rattle.field_table.specs.Table.{Table}
 use Rattle.bitmap.specs.Bits.{bytesOf}
 use Rattle.bitmap.specs.Bitmaps.{mapBit, mapsFor, setOf, noFields}
 use Rattle.message_language.specs.Language.{Entry}
-use Rattle.message_notes.specs.Notes.{headKind, headSize}
 use Rattle.message_walk.specs.declared.Rule.{Rule}
 use Rattle.message_walk.specs.declared.Rule.the-variants.{Clean}
 use Rattle.message_walk.specs.declared.Walked.{Walked}
 use Rattle.message_walk.specs.declared.Walked.the-variants.{Ended, Refused as WalkRefused}
 use Rattle.message_walk.specs.Walk.{Test, any, headNumber, countIn, mtiIn, Ending, bad, ends, walked, entriesIn}
-use Rattle.message_walk.specs.Answers.{testOf, answerOf, walkedBy}
+use Rattle.message_walk.specs.Answers.{testOf, walkedBy}
 use Rattle.message_walk.proofs.Heads.{ended-head, good-head}
 use Rattle.message_walk.proofs.Answered.{walk-refused, walk-ended}
 use Rattle.message_walk.proofs.Weaker.{weaker-entries}

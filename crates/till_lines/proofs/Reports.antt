@@ -1,6 +1,6 @@
 -- The ends of `report`, with the facts as the code has them. Assumes nothing.
 use Prim.Native.Nat.{ℕ, _≤_, _<_}
-use mathlib.Core.Path.{_≡_, refl, sym, ap, _∙_}
+use mathlib.Core.Path.{_≡_}
 use mathlib.Core.List.{List}
 use lib.ListN.{length, take, replicate}
 use lib.Seq.{take-append-seam}
