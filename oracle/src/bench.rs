@@ -8,10 +8,12 @@ use iso8583_core::validation::Validator;
 use std::hint::black_box;
 use std::time::Instant;
 
-/// Work that both sides can do. The third is a second way of doing it here.
+type Call = Box<dyn FnMut()>;
+
+/// Work that both sides can do: here, there, and perhaps in a second way here.
 struct Work {
     name: String,
-    sides: Vec<(&'static str, Box<dyn FnMut()>)>,
+    sides: Vec<(&'static str, Call)>,
 }
 
 /// Times are taken in so many turns, here and there by turns, and the least is printed: other work on the machine only adds to it.
@@ -53,13 +55,13 @@ fn done<T>(answer: T) {
     drop(answer);
 }
 
-fn time_of(call: &mut Box<dyn FnMut()>, times: usize) -> f64 {
+fn time_of(call: &mut Call, times: usize) -> f64 {
     let start = Instant::now();
     (0..times).for_each(|_| call());
     start.elapsed().as_nanos() as f64
 }
 
-fn calls_in_a_turn(call: &mut Box<dyn FnMut()>) -> usize {
+fn calls_in_a_turn(call: &mut Call) -> usize {
     let once = time_of(call, 100) / 100.0;
     (TURN_NANOSECONDS / once.max(1.0)) as usize + 1
 }
@@ -114,8 +116,8 @@ fn reading(name: String, message: Vec<u8>) -> Work {
 fn writing(name: String, message: Vec<u8>) -> Work {
     let mut room = [0; notes::ROOM];
     here::read(&message, &mut room);
-    let (_, _, taken) = notes::taken_apart(&room).unwrap();
-    let notes = room[..taken].to_vec();
+    let size = notes::taken_apart(&room).unwrap().size;
+    let notes = room[..size].to_vec();
     let read = ISO8583Message::from_bytes(&message).unwrap();
     let (values, values2, notes2) = (message.clone(), message.clone(), notes.clone());
     let (mut out, mut out2) = (message.clone(), message);
@@ -138,10 +140,7 @@ fn conversions() -> Vec<Work> {
     let mut out = [[0; 64]; 4];
     let [a, b, c, d] = &mut out;
     let (mut a, mut b, mut c, mut d) = (*a, *b, *c, *d);
-    let work = |name: &str, ours: Box<dyn FnMut()>, theirs: Box<dyn FnMut()>| Work {
-        name: name.into(),
-        sides: vec![("here", ours), ("there", theirs)],
-    };
+    let work = |name: &str, ours: Call, theirs: Call| Work { name: name.into(), sides: vec![("here", ours), ("there", theirs)] };
     vec![
         work(
             "BCD encoding, 16 digits",

@@ -170,11 +170,14 @@ fn read_answer(message: &[u8]) -> Answer {
     if reading.verdict.number != 0 {
         return if untouched(&notes) { verdict(reading.verdict) } else { Answer::Broken("a refusal changed the notes") };
     }
-    let Some((fields, said, taken)) = notes::taken_apart(&notes) else { return Answer::Broken("the notes are no notes") };
-    if said as u64 != reading.used || !untouched(&notes[taken..]) || notes[1..5] != message[..4] || notes[5] as u64 != reading.bitmaps {
+    let Some(said) = notes::taken_apart(&notes) else {
+        return Answer::Broken("the notes are no notes");
+    };
+    let head = notes[1..5] == message[..4] && notes[5] as u64 == reading.bitmaps;
+    if !head || said.length as u64 != reading.used || !untouched(&notes[said.size..]) {
         return Answer::Broken("the notes do not fit the answer");
     }
-    let contents = fields.iter().map(|(f, at, n)| (*f, message[*at..at + n].to_vec())).collect();
+    let contents = said.fields.iter().map(|(f, at, n)| (*f, message[*at..at + n].to_vec())).collect();
     Answer::Message(reading.used as usize, reading.bitmaps as usize, contents)
 }
 

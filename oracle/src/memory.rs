@@ -58,8 +58,8 @@ impl Watch {
             let answer = here::read(&message, &mut notes);
             self.told(answer.verdict, answer.used);
             if answer.verdict.number == 0 {
-                let (_, _, taken) = notes::taken_apart(&notes).unwrap();
-                self.notes(&message, &notes[..taken]);
+                let size = notes::taken_apart(&notes).unwrap().size;
+                self.notes(&message, &notes[..size]);
             }
         }
     }

@@ -22,8 +22,18 @@ pub fn of(contents: &Contents, length: usize) -> (Vec<u8>, Vec<u8>) {
     (values, notes)
 }
 
-/// Of notes: the fields with offset and length, the length that the end note says, and the count of bytes that the notes take.
-pub fn taken_apart(notes: &[u8]) -> Option<(Vec<(u8, usize, usize)>, usize, usize)> {
+/// What notes say.
+pub struct Said {
+    /// Number, offset and length.
+    pub fields: Vec<(u8, usize, usize)>,
+    /// The length in the end note.
+    pub length: usize,
+    /// How many bytes the notes take.
+    pub size: usize,
+}
+
+/// Takes notes apart; nothing where they are none.
+pub fn taken_apart(notes: &[u8]) -> Option<Said> {
     let number = |at: usize, n: usize| notes[at..at + n].iter().fold(0, |sum, b| 256 * sum + *b as usize);
     let mut fields = Vec::new();
     let mut at = 6;
@@ -32,5 +42,5 @@ pub fn taken_apart(notes: &[u8]) -> Option<(Vec<(u8, usize, usize)>, usize, usiz
         at += 8;
     }
     let whole = notes[0] == 0x01 && notes[at] == 0x04 && at + 5 <= notes.len();
-    whole.then(|| (fields, number(at + 1, 4), at + 5))
+    whole.then(|| Said { fields, length: number(at + 1, 4), size: at + 5 })
 }

@@ -258,7 +258,15 @@ fn cleaning(list: &mut List) {
     clean("Message 10", 27, "é".as_bytes(), "refused 12 field 27 at 6", "panics");
     clean("Message 11", 25, "é".as_bytes(), "refused 8 field 25 at 6", "`0800` 00 00 00 80 00 00 00 00 C3 A9");
     clean("Message 11", 40, "é".as_bytes(), "refused 8 field 40 at 6", "`0800` 00 00 00 00 01 00 00 00 C3 A9 `  `, padded 40");
+    clean("Message 13", 49, b"", "`0800` 00 00 00 00 00 00 80 00 `000`, padded 49", "`0800` 00 00 00 00 00 00 80 00 `   `, padded 49");
     clean("Message 13", 49, b"5", "`0800` 00 00 00 00 00 00 80 00 `005`, padded 49", "`0800` 00 00 00 00 00 00 80 00 `5  `, padded 49");
+    clean(
+        "Message 14",
+        28,
+        b"",
+        "`0800` 00 00 00 10 00 00 00 00 `         `, padded 28",
+        "`0800` 00 00 00 10 00 00 00 00 `00000000`, padded 28",
+    );
     clean(
         "Message 14",
         28,
