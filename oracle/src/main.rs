@@ -18,8 +18,7 @@ use std::process::ExitCode;
 use table::{ranges, Domain};
 
 fn main() -> ExitCode {
-    // A panic of the crate is caught and is an answer.
-    std::panic::set_hook(Box::new(|_| {}));
+    there::quiet_panics();
     let words: Vec<String> = std::env::args().skip(1).collect();
     let number = |name: &str, default: u64| match words.iter().position(|w| w == name) {
         Some(i) => words.get(i + 1).and_then(|n| n.parse().ok()).expect("a number"),

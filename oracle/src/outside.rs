@@ -7,7 +7,6 @@ use iso8583_core::bitmap::Bitmap;
 use iso8583_core::field::{Field, FieldDefinition, FieldValue};
 use iso8583_core::message::ISO8583Message;
 use iso8583_core::validation::Validator;
-use std::panic::catch_unwind;
 
 /// Prints every entry, and answers how many are not as listed.
 pub fn run(domain: &Domain) -> usize {
@@ -162,10 +161,10 @@ fn encodings(list: &mut List) {
 }
 
 fn fields(list: &mut List) {
-    let entry = |n: u8| match catch_unwind(|| FieldDefinition::get(n)) {
-        Ok(Some(d)) => format!("the entry of {}: {:?} {:?}", d.number, d.field_type, d.length),
-        Ok(None) => "none".into(),
-        Err(_) => "panics".into(),
+    let entry = |n: u8| match there::caught(|| FieldDefinition::get(n)) {
+        Some(Some(d)) => format!("the entry of {}: {:?} {:?}", d.number, d.field_type, d.length),
+        Some(None) => "none".into(),
+        None => "panics".into(),
     };
     let check = |n: u64, content: &[u8]| said(here::check_field(n, content));
     list.other(

@@ -6,10 +6,33 @@ use iso8583_core::error::ISO8583Error as Error;
 use iso8583_core::field::{Field, FieldLength, FieldValue};
 use iso8583_core::message::ISO8583Message;
 use iso8583_core::validation::Validator;
-use std::panic::catch_unwind;
+use std::cell::Cell;
+use std::panic::{catch_unwind, set_hook, take_hook, UnwindSafe};
+
+thread_local! {
+    static ASKED: Cell<bool> = const { Cell::new(false) };
+}
+
+/// A panic of the crate is caught, and is an answer: it is not reported. Others are.
+pub fn quiet_panics() {
+    let usual = take_hook();
+    set_hook(Box::new(move |info| {
+        if !ASKED.get() {
+            usual(info);
+        }
+    }));
+}
+
+/// What the crate answers, or nothing where it panics.
+pub fn caught<T>(ask: impl FnOnce() -> T + UnwindSafe) -> Option<T> {
+    ASKED.set(true);
+    let answer = catch_unwind(ask).ok();
+    ASKED.set(false);
+    answer
+}
 
 pub fn answer(case: &Case) -> Answer {
-    catch_unwind(|| match case {
+    caught(|| match case {
         Case::Read(message) => read(message),
         Case::LookUp(message) => look_up(message),
         Case::Clean(c) | Case::Exact(c) => write(c),
