@@ -1,18 +1,18 @@
 -- Bits of bytes: what the code's tests say of them, and that a byte is its eight bits. Assumes nothing.
-use Prim.Native.Nat.{ℕ, zero, suc, _+_, _-_, _*_, _/_, _%_, _^_, _≤_, _<_}
+use Prim.Native.Nat.{ℕ, suc, _+_, _-_, _*_, _/_, _%_, _^_, _≤_, _<_}
 use mathlib.Core.Path.{_≡_, refl, sym, ap, _∙_}
-use mathlib.Core.Bool.{Bool, true, false, cond}
+use mathlib.Core.Bool.{Bool, true, false}
 use mathlib.Core.List.{List, [], _∷_}
 use native.Mathlib.Omega.{arith}
 use native.Mathlib.Nat.{zero-div}
 use lib.Dec.{T, eqb, ltb, eqb→eq, ltb→lt}
 use lib.ListN.{length, getD, List·getD-eq-default}
 use borrow.Author.Tests.{eq-eqb, ne-eqb}
-use Rattle.octets.specs.Lists.{both, either, between, all}
+use Rattle.octets.specs.Lists.{either, between, all}
 use Rattle.octets.proofs.Cases.{false-true, both-left, both-right}
 use Rattle.octets.proofs.Lists.{between-high}
-use Rattle.octets.proofs.Tables.{below, at, every, entry}
-use Rattle.bitmap.specs.Bits.{bitIn, bitOf, bit, byteOf, bytesOf, withBit}
+use Rattle.octets.proofs.Tables.{below, at, entry}
+use Rattle.bitmap.specs.Bits.{bitIn, bitOf, byteOf, bytesOf, withBit}
 
 -- The ends of `is_set`.
 pub bit-zero : (s : List ℕ) (f : ℕ) → f ≡ 0 → false ≡ bitOf s f

@@ -1,18 +1,16 @@
 -- The bitmaps, made byte by byte, have the bits that they should. Assumes nothing.
 use Prim.Native.Nat.{ℕ, zero, suc, _+_, _-_, _*_, _/_, _%_, _^_, _≤_, _<_}
 use mathlib.Core.Path.{_≡_, refl, sym, ap, _∙_}
-use mathlib.Core.Bool.{Bool, true, false, cond, not}
-use mathlib.Core.List.{List, [], _∷_, _++_}
+use mathlib.Core.Bool.{Bool, true, false, not}
+use mathlib.Core.List.{List, [], _∷_}
 use native.Mathlib.Omega.{arith}
-use native.Mathlib.Nat.{zero-add, le-of-suc-le-suc, not-suc-le-zero}
 use lib.Dec.{eqb, leb}
 use lib.ListN.{length, take, drop, getD, set, replicate, length-drop, take-append-drop, length-replicate, getD-replicate}
 use lib.Seq.{getD-take, getD-drop, length-take-le, ext-getD}
-use borrow.Author.Tests.{eq-eqb, ne-eqb, le-leb, lt-leb}
-use Rattle.octets.specs.Lists.{both, between, all}
-use Rattle.octets.proofs.Cases.{by-eq, by-bool, both-left, both-right}
-use Rattle.octets.proofs.Lists.{is-between}
-use Rattle.bitmap.specs.Bits.{bitIn, bitOf, bit, bytesOf}
+use borrow.Author.Tests.{eq-eqb, ne-eqb}
+use Rattle.octets.specs.Lists.{between, all}
+use Rattle.octets.proofs.Cases.{by-eq, both-left, both-right}
+use Rattle.bitmap.specs.Bits.{bitIn, bitOf, bytesOf}
 use Rattle.bitmap.specs.Bitmaps.{isField, hasField, mapBit, mapsFor, chain, mapByte, mapsFrom}
 use Rattle.bitmap.proofs.Bits.{bytes-of-bits}
 use Rattle.bitmap.proofs.Maps.{field-not-65, maps-length, maps-at, byte-beyond, byte-first, byte-second, byte-other}

@@ -1,17 +1,17 @@
 -- The ends of the bitmap routines, with the facts as the code has them. Assumes nothing.
-use Prim.Native.Nat.{ℕ, zero, suc, _+_, _-_, _*_, _/_, _%_, _≤_, _<_, min}
+use Prim.Native.Nat.{ℕ, zero, suc, _+_, _-_, _*_, _/_, _%_, _≤_, _<_}
 use mathlib.Core.Path.{_≡_, refl, sym, ap, _∙_}
-use mathlib.Core.Bool.{Bool, true, false, cond, not}
-use mathlib.Core.List.{List, [], _∷_, _++_}
+use mathlib.Core.Bool.{Bool, true, false, not}
+use mathlib.Core.List.{List}
 use native.Mathlib.Omega.{arith}
-use native.Mathlib.Nat.{zero-add, suc-add, add-suc}
+use native.Mathlib.Nat.{zero-add}
 use lib.Dec.{eqb, leb}
 use lib.ListN.{length, getD, set}
 use borrow.Author.Tests.{le-leb, lt-leb, eq-eqb, ne-eqb, not-true, not-false}
-use Rattle.octets.specs.Lists.{both, between}
-use Rattle.octets.proofs.Cases.{by-bool, both-left, both-right, both-fails, both-goes, tested-true, tested-false}
+use Rattle.octets.specs.Lists.{between}
+use Rattle.octets.proofs.Cases.{by-bool, both-left, both-fails, both-goes}
 use Rattle.octets.proofs.Lists.{is-between, below-low, above-high, between-low, between-high}
-use Rattle.bitmap.specs.Bits.{bit, bitOf, withBit}
+use Rattle.bitmap.specs.Bits.{bitOf, withBit}
 use Rattle.bitmap.specs.Bitmaps.{isField, hasField, countOf, withField, chain, mapByte, mapsFrom}
 
 -- isField as facts

@@ -1,19 +1,19 @@
 -- A set that fields are put into one after the other has the bits of those fields. Assumes nothing.
-use Prim.Native.Nat.{ℕ, zero, suc, _+_, _-_, _*_, _/_, _%_, _^_, _≤_, _<_}
+use Prim.Native.Nat.{ℕ, zero, suc, _-_, _/_, _%_, _^_, _≤_, _<_}
 use mathlib.Core.Path.{_≡_, refl, sym, ap, _∙_}
-use mathlib.Core.Bool.{Bool, true, false, cond, not}
+use mathlib.Core.Bool.{Bool, true, false, not}
 use mathlib.Core.List.{List, [], _∷_}
 use native.Mathlib.Omega.{arith}
 use native.Mathlib.Nat.{zero-div}
-use lib.Dec.{T, eqb, ltb, eqb→eq}
-use lib.ListN.{length, getD, set, replicate, length-set}
+use lib.Dec.{T, eqb}
+use lib.ListN.{length, getD, replicate, length-set}
 use lib.Seq.{getD-set-same, getD-set-other}
-use borrow.Author.Tests.{eq-eqb, ne-eqb, eqb-true, eqb-false}
-use Rattle.octets.specs.Lists.{both, either, between, all}
-use Rattle.octets.proofs.Cases.{by-bool, by-eq, both-left, both-right, false-true}
+use borrow.Author.Tests.{eq-eqb, ne-eqb, eqb-false}
+use Rattle.octets.specs.Lists.{either, between, all}
+use Rattle.octets.proofs.Cases.{by-bool, by-eq, both-left, both-right}
 use Rattle.octets.proofs.Lists.{is-between, between-high, all-at}
 use Rattle.octets.proofs.Tables.{below, at}
-use Rattle.bitmap.specs.Bits.{bitIn, bitOf, bit, bytesOf, withBit}
+use Rattle.bitmap.specs.Bits.{bitIn, bitOf, bytesOf, withBit}
 use Rattle.bitmap.specs.Bitmaps.{isField, hasField, noFields, withField, isIn, setOf, setFrom}
 use Rattle.bitmap.proofs.Bits.{bit-room, bytes-of-bits}
 use Rattle.bitmap.proofs.ByBits.{all-set}

@@ -1,12 +1,12 @@
 -- Contents of every class but b are text: their bytes are ASCII. Assumes nothing.
 use Prim.Native.Nat.{ℕ, _≤_}
 use mathlib.Core.Path.{_≡_, refl}
-use mathlib.Core.Bool.{Bool, true, false, not}
+use mathlib.Core.Bool.{true, not}
 use mathlib.Core.List.{List, [], _∷_}
 use native.Mathlib.Omega.{arith}
 use lib.Dec.{eqb}
 use borrow.Author.Tests.{eqb-true}
-use Rattle.octets.specs.Lists.{both, either, between, all}
+use Rattle.octets.specs.Lists.{either, between, all}
 use Rattle.octets.specs.Numbers.{isDigit, isAscii}
 use Rattle.octets.proofs.Cases.{by-either, both-left, both-right}
 use Rattle.octets.proofs.Lists.{is-between, between-high, all-weaker}

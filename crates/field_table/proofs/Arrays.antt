@@ -1,15 +1,15 @@
 -- The code's three arrays, and the test, computed once over all of their entries, that they are the house table. Assumes nothing.
 use Prim.Native.Nat.{ℕ, _<_}
-use mathlib.Core.Path.{_≡_, refl, sym, ap, _∙_}
+use mathlib.Core.Path.{_≡_}
 use mathlib.Core.Bool.{Bool}
 use mathlib.Core.List.{List, [], _∷_}
-use lib.Dec.{T, eqb, ltb, eqb→eq, ltb→lt}
+use lib.Dec.{eqb, ltb, eqb→eq, ltb→lt}
 use lib.ListN.{getD}
 use mir.Val.{Fits}
 use mir.Syntax.{w64}
 use native.Mathlib.Omega.{arith}
-use Rattle.octets.proofs.Tables.{every, entry}
-use Rattle.field_table.specs.House.{house, houseRows}
+use Rattle.octets.proofs.Tables.{entry}
+use Rattle.field_table.specs.House.{house}
 use Rattle.field_table.specs.Codes.{classByCode}
 use Rattle.field_table.proofs.Codes.{codeOf, same-class}
 

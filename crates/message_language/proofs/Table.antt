@@ -3,9 +3,9 @@ use Prim.Native.Nat.{ℕ, _+_, _<_}
 use mathlib.Core.Path.{_≡_}
 use mathlib.Core.Bool.{Bool}
 use mathlib.Core.List.{List, [], _∷_}
-use lib.Dec.{T, eqb, leb, eqb→eq}
+use lib.Dec.{eqb, leb, eqb→eq}
 use Rattle.octets.specs.Lists.{both, between}
-use Rattle.octets.proofs.Tables.{below, at}
+use Rattle.octets.proofs.Tables.{at}
 use Rattle.field_table.specs.Table.{Row}
 use Rattle.field_table.specs.House.{houseRows}
 use Rattle.bitmap.specs.Bits.{bit}

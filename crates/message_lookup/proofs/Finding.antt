@@ -1,7 +1,7 @@
 -- The ends of lookup and a turn of its loop, with the facts as the code has them. Assumes nothing.
-use Prim.Native.Nat.{ℕ, zero, suc, _+_, _-_, _≤_, _<_}
+use Prim.Native.Nat.{ℕ, _+_, _-_, _≤_}
 use mathlib.Core.Path.{_≡_, refl, sym, ap, _∙_}
-use mathlib.Core.Bool.{Bool, true, false, cond}
+use mathlib.Core.Bool.{cond}
 use mathlib.Core.List.{List, [], _∷_}
 use native.Mathlib.Omega.{arith}
 use native.Mathlib.Nat.{add-sub-cancel-left}
@@ -13,7 +13,7 @@ use Rattle.refusal.specs.Numbers.{fieldAbsent}
 use Rattle.refusal.specs.Refusals.{refusal}
 use Rattle.refusal.specs.declared.Refusal.{Refusal}
 use Rattle.field_table.specs.Table.{Table}
-use Rattle.message_language.specs.Language.{Entry, entry}
+use Rattle.message_language.specs.Language.{Entry}
 use Rattle.message_notes.specs.Notes.{headSize, fieldNoteSize}
 use Rattle.message_walk.specs.declared.Rule.the-variants.{Any}
 use Rattle.message_walk.specs.declared.Judged.{Judged}
@@ -22,7 +22,6 @@ use Rattle.message_walk.specs.declared.Walked.{Walked}
 use Rattle.message_walk.specs.declared.Walked.the-variants.{Ended, Refused as WalkRefused}
 use Rattle.message_walk.specs.Walk.{any, countIn, judged, passed, Ending, bad, ends, walked, entriesIn}
 use Rattle.message_walk.specs.Answers.{walkedBy}
-use Rattle.message_walk.proofs.Steps.{Good}
 use Rattle.message_walk.proofs.Ends.{Going, going-first, going-next, note-here}
 use Rattle.message_walk.proofs.Answered.{any-refused, any-ended}
 use Rattle.message_walk.proofs.Folds.{none-refused, none-end, one-more, AllGood, all-good}

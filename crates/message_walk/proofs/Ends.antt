@@ -1,35 +1,31 @@
 -- The ends of the walking routines, with the facts as the code has them. Assumes nothing.
-use Prim.Native.Nat.{ℕ, zero, suc, _+_, _-_, _*_, _/_, _≤_, _<_}
+use Prim.Native.Nat.{ℕ, suc, _+_, _-_, _*_, _/_, _≤_, _<_}
 use mathlib.Core.Path.{_≡_, refl, sym, ap, _∙_}
-use mathlib.Core.Bool.{Bool, true, false, cond, not}
-use mathlib.Core.List.{List, [], _∷_}
+use mathlib.Core.Bool.{Bool, true, false, not}
+use mathlib.Core.List.{List}
 use native.Mathlib.Omega.{arith}
 use native.Mathlib.Nat.{add-sub-cancel-left}
-use lib.Dec.{eqb, leb, ltb}
+use lib.Dec.{leb, ltb}
 use lib.ListN.{length, take, drop, getD, length-drop, List·getD-eq-default}
 use lib.Seq.{drop-drop}
 use borrow.Author.Tests.{eq-eqb, ne-eqb, le-leb, lt-leb, lt-ltb, le-ltb, leb-true, not-true, not-false}
-use Rattle.octets.specs.Lists.{both, between, all}
+use Rattle.octets.specs.Lists.{between, all}
 use Rattle.octets.specs.Numbers.{isDigit}
-use Rattle.octets.proofs.Cases.{by-lt, by-le, tested-true}
+use Rattle.octets.proofs.Cases.{by-le, tested-true}
 use Rattle.octets.proofs.Parts.{to-end}
 use Rattle.refusal.specs.Numbers.{mtiNotDigits, noteMalformed, numberNotAllowed, outsideValues}
 use Rattle.refusal.specs.Refusals.{refusal, plain}
-use Rattle.refusal.specs.declared.Refusal.{Refusal}
 use Rattle.field_table.specs.Table.{Table}
 use Rattle.bitmap.specs.Bitmaps.{isField}
 use Rattle.bitmap.proofs.Maps.{field-low}
-use Rattle.message_language.specs.Language.{Entry, entry}
-use Rattle.message_notes.specs.Notes.{headKind, headSize, fieldNoteSize, noteAt}
-use Rattle.message_notes.specs.declared.Note.{Note}
-use Rattle.message_notes.specs.declared.Note.the-variants.{Field as FieldNote, End as EndNote, Malformed}
+use Rattle.message_notes.specs.Notes.{headKind, headSize, fieldNoteSize}
 use Rattle.message_walk.specs.declared.Rule.{Rule}
 use Rattle.message_walk.specs.declared.Rule.the-variants.{Any}
 use Rattle.message_walk.specs.declared.Judged.{Judged}
 use Rattle.message_walk.specs.declared.Judged.the-variants.{Passed, End, Refused}
 use Rattle.message_walk.specs.declared.Walked.{Walked}
 use Rattle.message_walk.specs.declared.Walked.the-variants.{Ended, Refused as WalkRefused}
-use Rattle.message_walk.specs.Walk.{Test, any, headNumber, countIn, numberAllowed, contentOf, judgedField, judged, passed, Ending, bad, ends, ending, walked}
+use Rattle.message_walk.specs.Walk.{Test, any, headNumber, countIn, numberAllowed, contentOf, judgedField, judged, ending, walked}
 use Rattle.message_walk.specs.Answers.{testOf, answerOf, walkedBy, endedBy}
 use Rattle.message_walk.proofs.Steps.{passing, note-whole, ending-bad, ending-end, ending-more}
 

@@ -1,21 +1,17 @@
 -- A loop over the notes that pass, a note at a time: what is still to come. Assumes nothing.
-use Prim.Native.Nat.{ℕ, zero, suc, _+_, _-_, _*_, _≤_, _<_}
-use mathlib.Core.Path.{_≡_, refl, sym, ap, _∙_}
-use mathlib.Core.Bool.{Bool, true, false}
+use Prim.Native.Nat.{ℕ, zero, suc, _+_, _-_}
+use mathlib.Core.Path.{_≡_, ap, _∙_}
 use mathlib.Core.List.{List, [], _∷_}
 use native.Mathlib.Omega.{arith}
 use lib.ListN.{length, take, drop}
 use lib.Seq.{drop-drop}
-use Rattle.octets.specs.Lists.{both, all}
-use Rattle.octets.proofs.Cases.{both-left, both-right}
-use Rattle.bitmap.specs.Bitmaps.{isField}
 use Rattle.message_language.specs.Language.{Entry, entry}
-use Rattle.message_notes.specs.Notes.{headSize, fieldNoteSize}
+use Rattle.message_notes.specs.Notes.{fieldNoteSize}
 use Rattle.message_walk.specs.declared.Judged.{Judged}
 use Rattle.message_walk.specs.declared.Judged.the-variants.{Passed, End, Refused}
-use Rattle.message_walk.specs.Walk.{Test, numberAllowed, judged, passed, Ending, bad, ends, ending}
-use Rattle.message_walk.proofs.Steps.{by-judged, Good, passing, passed-bad, passed-end, passed-more, ending-bad, ending-end, ending-more}
-use Rattle.message_walk.proofs.Ends.{Going, judged-here, passed-here, note-here, fuel-here, going-next}
+use Rattle.message_walk.specs.Walk.{Test, judged, passed}
+use Rattle.message_walk.proofs.Steps.{by-judged, Good, passing, passed-bad, passed-end, passed-more}
+use Rattle.message_walk.proofs.Ends.{Going, judged-here, passed-here}
 
 module _ (p : Test) (v n : List ℕ) (m at last k : ℕ) (g : Going p v n m at last k) (o : Judged) (j : o ≡ judged p v m last (take (length n - at) (drop at n))) where
   abbrev coming : List Entry

@@ -1,26 +1,23 @@
 -- A walk, a note at a time: over any rule, values and count of bitmaps. Assumes nothing.
-use Prim.Native.Nat.{ℕ, zero, suc, _+_, _-_, _*_, _≤_, _<_}
+use Prim.Native.Nat.{ℕ, suc, _+_, _-_, _≤_}
 use mathlib.Core.Path.{_≡_, refl, sym, ap, _∙_}
-use mathlib.Core.Bool.{Bool, true, false, cond}
+use mathlib.Core.Bool.{true}
 use mathlib.Core.List.{List, [], _∷_}
 use native.Mathlib.Omega.{arith}
-use lib.Dec.{eqb, leb, ltb}
-use lib.ListN.{length, take, drop, getD, length-drop}
-use lib.Seq.{drop-drop}
-use borrow.Author.Tests.{eq-eqb, ne-eqb, eqb-true, le-leb, lt-leb, lt-ltb, le-ltb, leb-true, ltb-true}
-use Rattle.octets.specs.Lists.{both}
-use Rattle.octets.proofs.Cases.{by-bool, by-lt, by-eq, both-left, both-right}
+use lib.Dec.{leb}
+use lib.ListN.{length, take, drop, getD}
+use borrow.Author.Tests.{eq-eqb, ne-eqb, le-leb, lt-ltb, le-ltb, leb-true}
+use Rattle.octets.proofs.Cases.{by-bool, by-lt, by-eq}
 use Rattle.octets.specs.Numbers.{bigEndianOf}
 use Rattle.refusal.specs.Numbers.{noteMalformed, numberNotAllowed, outsideValues}
 use Rattle.refusal.specs.Refusals.{refusal}
-use Rattle.bitmap.specs.Bitmaps.{isField}
-use Rattle.message_language.specs.Language.{Entry, entry}
+use Rattle.message_language.specs.Language.{entry}
 use Rattle.message_notes.specs.Notes.{fieldKind, endKind, fieldNoteSize, endSize, fieldNoteAt, endNoteAt, noteAt}
 use Rattle.message_notes.specs.declared.Note.{Note}
 use Rattle.message_notes.specs.declared.Note.the-variants.{Field as FieldNote, End as EndNote, Malformed}
 use Rattle.message_walk.specs.declared.Judged.{Judged}
 use Rattle.message_walk.specs.declared.Judged.the-variants.{Passed, End, Refused}
-use Rattle.message_walk.specs.Walk.{Test, numberAllowed, contentOf, judgedField, judged, passed, Ending, bad, ends, ending}
+use Rattle.message_walk.specs.Walk.{Test, numberAllowed, contentOf, judgedField, judged, passed, bad, ends, ending}
 
 -- what stands at the front of the notes
 pub by-note : {P : Type 0} (o : Note) → (o ≡ Malformed → P) → ((u : ℕ) → o ≡ EndNote u → P) → ((f a n : ℕ) → o ≡ FieldNote f a n → P) → P

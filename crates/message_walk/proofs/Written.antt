@@ -1,25 +1,22 @@
 -- Walking notes that were written: the notes of entries that pass, one after the other, are walked to their end. Assumes nothing.
 use Prim.Native.Nat.{ℕ, zero, suc, _+_, _-_, _*_, _≤_, _<_}
-use mathlib.Core.Path.{_≡_, refl, sym, ap, _∙_}
-use mathlib.Core.Bool.{Bool, true, false, cond}
+use mathlib.Core.Path.{_≡_, sym, ap, _∙_}
+use mathlib.Core.Bool.{true}
 use mathlib.Core.List.{List, [], _∷_, _++_, append-assoc}
 use native.Mathlib.Omega.{arith}
-use lib.Dec.{eqb, leb}
-use lib.ListN.{length, take, drop, getD, length-append, length-drop}
+use lib.ListN.{length, take, drop, getD, length-append}
 use lib.Seq.{take-at, drop-at, drop-drop, getD-drop}
 use borrow.Author.Tests.{eq-eqb, le-leb}
-use Rattle.octets.specs.Lists.{both, between, all}
+use Rattle.octets.specs.Lists.{all}
 use Rattle.octets.specs.Numbers.{isDigit, bigEndian, digits}
 use Rattle.octets.proofs.Lists.{is-between}
-use Rattle.refusal.specs.Refusals.{plain}
 use Rattle.message_language.specs.Language.{Entry, entry, Reading}
-use Rattle.message_notes.specs.Notes.{headNote, fieldNote, endNote, fieldNotes, notesOf, headKind, headSize, fieldNoteSize, noteAt}
-use Rattle.message_notes.specs.declared.Note.the-variants.{Field as FieldNote, End as EndNote}
-use Rattle.message_notes.proofs.Sizes.{bytes-long, head-long, field-long, fields-long, end-long, notes-long}
+use Rattle.message_notes.specs.Notes.{headNote, fieldNote, endNote, fieldNotes, notesOf, headKind, headSize, fieldNoteSize}
+use Rattle.message_notes.proofs.Sizes.{head-long, field-long, notes-long}
 use Rattle.message_notes.proofs.Spelling.{Fits, AllFit}
 use Rattle.message_notes.proofs.Reading.{field-back, end-back}
 use Rattle.message_walk.specs.declared.Judged.the-variants.{Passed, End}
-use Rattle.message_walk.specs.Walk.{Test, headNumber, countIn, mtiIn, judged, passed, Ending, ends, ending, walked, entriesIn}
+use Rattle.message_walk.specs.Walk.{Test, headNumber, countIn, mtiIn, judged, passed, ends, ending, walked, entriesIn}
 use Rattle.message_walk.proofs.Steps.{by-judged, Good, passes, passing, judged-end, judged-note, ending-end, ending-more, passed-bad, passed-end, passed-more}
 
 -- entries that pass one after the other, the first above last

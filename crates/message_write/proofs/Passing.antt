@@ -10,7 +10,7 @@ use lib.ListN.{length, take, drop, length-drop, length-append}
 use lib.Seq.{length-take-le}
 use borrow.Author.Tests.{ltb-true}
 use borrow.Rule.Slice.PartMut.{midOf, putMid}
-use Rattle.octets.specs.Lists.{both, all, lay, placed}
+use Rattle.octets.specs.Lists.{both, all, lay}
 use Rattle.octets.proofs.Cases.{by-bool, both-left, both-right}
 use Rattle.octets.proofs.Parts.{Written, written-none, written-more, written-end, written-room}
 use Rattle.field_table.specs.Table.{Table}

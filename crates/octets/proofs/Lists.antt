@@ -1,17 +1,17 @@
 -- The laws of a writing loop and of a testing loop, each once. Assumes nothing.
 use mathlib.Core.Path.{_≡_, refl, sym, ap, _∙_}
-use mathlib.Core.Bool.{Bool, true, false, cond}
+use mathlib.Core.Bool.{Bool, true, false}
 use mathlib.Core.List.{List, [], _∷_, _++_, map, append-nil}
 use Prim.Native.Nat.{ℕ, zero, suc, _+_, _≤_, _<_}
 use native.Mathlib.Nat.{le-antisymm, le-of-suc-le-suc, not-suc-le-zero}
 use native.Mathlib.Numerals.{add-one}
 use native.Mathlib.Omega.{arith}
-use lib.ListN.{length, take, drop, getD, set, length-append, length-take, length-drop, drop-of-length-le}
+use lib.ListN.{length, take, drop, getD, set, length-append, length-drop, drop-of-length-le}
 use lib.Seq.{drop-cons, take-length, drop-length}
 use lib.Dec.{eqb, leb, eqb·suc-suc}
-use borrow.Author.Tests.{le-leb, lt-leb, leb-true, eq-eqb, ne-eqb}
+use borrow.Author.Tests.{le-leb, lt-leb, leb-true, ne-eqb}
 use Rattle.octets.specs.Lists.{both, between, all, lead, lay, placed}
-use Rattle.octets.proofs.Cases.{false-true, by-bool, both-left, both-right}
+use Rattle.octets.proofs.Cases.{by-bool, both-left, both-right}
 
 -- between as facts
 pub is-between : (lo hi x : ℕ) → lo ≤ x → x ≤ hi → between lo hi x ≡ true

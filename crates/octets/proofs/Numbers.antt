@@ -1,16 +1,16 @@
 -- Numbers and their digits, over the base and the width. Assumes nothing.
 use Prim.Native.Nat.{ℕ, zero, suc, _+_, _-_, _*_, _/_, _%_, _^_, _≤_, _<_}
 use mathlib.Core.Path.{_≡_, refl, sym, ap, _∙_}
-use mathlib.Core.Bool.{Bool, true, false, cond}
+use mathlib.Core.Bool.{true, cond}
 use mathlib.Core.List.{List, [], _∷_, _++_, append-assoc, append-nil}
 use native.Mathlib.Omega.{arith}
 use native.Mathlib.Numerals.{add-one}
 use native.Mathlib.Nat.{add-zero, zero-add, mod-lt, mod-eq-of-lt, div-add-mod', div-eq-of-lt, mul-add-mod-self-right, mul-add-div-right, div-lt-iff-lt-mul, pow-zero, pow-suc, pow-le-pow-right, le-antisymm}
-use lib.ListN.{length, take, drop, getD, set, length-append, length-drop}
+use lib.ListN.{length, take, drop, getD, set, length-append}
 use lib.Seq.{drop-cons, drop-length, drop-at, set-split, length-take-le}
 use lib.Dec.{leb}
 use borrow.Author.Tests.{le-leb, lt-leb}
-use Rattle.octets.specs.Lists.{both, between, all, lay}
+use Rattle.octets.specs.Lists.{between, all, lay}
 use Rattle.octets.specs.Numbers.{digits, number}
 use Rattle.octets.proofs.Cases.{both-left, both-right}
 use Rattle.octets.proofs.Lists.{is-between, between-low, between-high, all-append}

@@ -2,15 +2,13 @@
 -- n the length of the result. Assumes nothing.
 use Prim.Native.Nat.{ℕ, _≤_, _<_}
 use mathlib.Core.Path.{_≡_, refl, sym, ap, _∙_}
-use mathlib.Core.Bool.{Bool, true, false}
 use mathlib.Core.List.{List, [], _∷_}
 use lib.ListN.{length}
 use borrow.Author.Tests.{le-leb, lt-leb, eq-eqb, ne-eqb}
-use Rattle.octets.specs.Lists.{lay, placed}
+use Rattle.octets.specs.Lists.{lay}
 use Rattle.octets.proofs.Lists.{placed-short, placed-fits}
 use Rattle.refusal.specs.Numbers.{outputTooShort}
 use Rattle.refusal.specs.Refusals.{plain, tell, told, converted, convertedInto}
-use Rattle.refusal.specs.declared.Output.{Output}
 use Rattle.refusal.specs.declared.Output.the-variants.{Written, Refused}
 
 module _ (fault source : ℕ) (r d : List ℕ) (tested : fault ≡ source) where

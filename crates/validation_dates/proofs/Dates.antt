@@ -1,6 +1,6 @@
 -- The ends of the checks of dates and times, with the facts as their code has them. Assumes nothing.
 use Prim.Native.Nat.{ℕ, _+_, _-_, _≤_, _<_}
-use mathlib.Core.Path.{_≡_, refl, sym, ap, _∙_}
+use mathlib.Core.Path.{_≡_, refl, _∙_}
 use mathlib.Core.Bool.{Bool, true, false, not, cond}
 use mathlib.Core.List.{List}
 use native.Mathlib.Nat.{add-sub-cancel-left}
@@ -8,7 +8,7 @@ use native.Mathlib.Omega.{arith}
 use lib.ListN.{length, take, drop, length-take, length-drop}
 use lib.Dec.{eqb, leb}
 use borrow.Author.Tests.{eq-eqb, ne-eqb, eqb-true, le-leb}
-use Rattle.octets.specs.Lists.{both, between, all}
+use Rattle.octets.specs.Lists.{between, all}
 use Rattle.octets.specs.Numbers.{isDigit, decimalOf}
 use Rattle.octets.proofs.Cases.{both-left, tested-true, both-fails, both-goes}
 use Rattle.octets.proofs.Lists.{below-low, up-to-high}

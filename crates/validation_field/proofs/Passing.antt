@@ -1,6 +1,6 @@
 -- What it says of a content that it passes the field check (specs/Passing.antt). Assumes nothing.
-use Prim.Native.Nat.{ℕ, _<_, _≤_}
-use mathlib.Core.Path.{_≡_, refl, sym, ap, _∙_}
+use Prim.Native.Nat.{ℕ, _<_}
+use mathlib.Core.Path.{_≡_, refl, ap, _∙_}
 use mathlib.Core.Bool.{Bool, true, false, cond}
 use mathlib.Core.List.{List, _∷_}
 use native.Mathlib.Omega.{arith}
@@ -17,7 +17,7 @@ use Rattle.field_table.specs.Table.{Table, tableOf}
 use Rattle.field_table.specs.House.{house, houseRows}
 use Rattle.field_class.specs.Classes.{conforms}
 use Rattle.field_class.proofs.Text.{class-text}
-use Rattle.field_write.specs.Fields.{isAllowedLength, exactFault}
+use Rattle.field_write.specs.Fields.{isAllowedLength}
 use Rattle.field_write.proofs.Allowed.{allowed-most, allowed-fixed-length, exact-passes}
 use Rattle.validation_field.specs.Checks.{Asked, asks, firstFailing, valueTests, fieldTests, fieldFault, isCurrency}
 use Rattle.validation_field.specs.Passing.{TakenByWriter, DecidesCurrency}

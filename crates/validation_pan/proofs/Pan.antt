@@ -1,11 +1,10 @@
 -- The ends of the PAN check, with the facts as its code has them. Assumes nothing.
 use Prim.Native.Nat.{ℕ, _%_, _≤_, _<_}
-use mathlib.Core.Path.{_≡_, refl, sym, _∙_}
+use mathlib.Core.Path.{_≡_}
 use mathlib.Core.Bool.{Bool, true, false}
 use mathlib.Core.List.{List}
 use lib.ListN.{length}
 use lib.Dec.{eqb}
-use Rattle.octets.specs.Lists.{both, between}
 use Rattle.octets.proofs.Lists.{below-low, above-high, is-between}
 use Rattle.refusal.specs.Numbers.{panFails}
 use Rattle.validation_pan.specs.Pan.{digitsIn, luhnSum, leastDigits, mostDigits, isPan, panFault}

@@ -1,14 +1,14 @@
 -- The ends of the check of required fields, with the facts as its code has them. Assumes nothing.
-use Prim.Native.Nat.{ℕ, _+_, _≤_, _<_}
-use mathlib.Core.Path.{_≡_, refl, sym, ap, _∙_}
-use mathlib.Core.Bool.{Bool, true, false, not, cond}
-use mathlib.Core.List.{List, [], _∷_, _++_}
+use Prim.Native.Nat.{ℕ, _+_, _<_}
+use mathlib.Core.Path.{_≡_, sym, ap, _∙_}
+use mathlib.Core.Bool.{Bool, true, false, not}
+use mathlib.Core.List.{List}
 use native.Mathlib.Omega.{arith}
-use lib.ListN.{length, take, drop, getD}
+use lib.ListN.{drop, getD}
 use lib.Seq.{getD-take, getD-drop}
 use lib.Dec.{eqb}
 use borrow.Author.Tests.{eq-eqb, ne-eqb, not-true, not-false}
-use Rattle.octets.specs.Lists.{both, either, between}
+use Rattle.octets.specs.Lists.{either, between}
 use Rattle.octets.proofs.Cases.{by-eq, by-lt, both-fails, both-goes}
 use Rattle.octets.proofs.Lists.{below-low, above-high, is-between}
 use Rattle.refusal.specs.Numbers.{requiredMissing}
@@ -17,7 +17,7 @@ use Rattle.refusal.specs.declared.Refusal.{Refusal}
 use Rattle.refusal.specs.declared.Checked.{Checked}
 use Rattle.refusal.specs.declared.Checked.the-variants.{Passed, Refused}
 use Rattle.field_table.specs.Table.{Table}
-use Rattle.message_walk.specs.Walk.{any, mtiIn}
+use Rattle.message_walk.specs.Walk.{mtiIn}
 use Rattle.message_walk.specs.Answers.{walkedBy}
 use Rattle.message_walk.specs.declared.Rule.the-variants.{Any}
 use Rattle.message_walk.specs.declared.Walked.{Walked}
