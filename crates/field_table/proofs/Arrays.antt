@@ -3,11 +3,8 @@ use Prim.Native.Nat.{ℕ, _<_}
 use mathlib.Core.Path.{_≡_}
 use mathlib.Core.Bool.{Bool}
 use mathlib.Core.List.{List, [], _∷_}
-use lib.Dec.{eqb, ltb, eqb→eq, ltb→lt}
+use lib.Dec.{eqb, eqb→eq}
 use lib.ListN.{getD}
-use mir.Val.{Fits}
-use mir.Syntax.{w64}
-use native.Mathlib.Omega.{arith}
 use Rattle.octets.proofs.Tables.{entry}
 use Rattle.field_table.specs.House.{house}
 use Rattle.field_table.specs.Codes.{classByCode}
@@ -64,17 +61,6 @@ most-test k x = eqb x (house .most k)
 pub most-at : (k : ℕ) → k < 193 → getD mosts k 0 ≡ house .most k
 unfolding mosts most-test house
 most-at k h = eqb→eq (getD mosts k 0) (house .most k) (entry most-test mosts tt k h)
-
--- an entry fits in the number that it is widened to
-small-test : ℕ → ℕ → Bool
-small-test k x = ltb x 65536
-
-most-small : (k : ℕ) → k < 193 → getD mosts k 0 < 65536
-unfolding mosts small-test
-most-small k h = ltb→lt (getD mosts k 0) 65536 (entry small-test mosts tt k h)
-
-pub most-fits : (k : ℕ) → k < 193 → Fits w64 (getD mosts k 0)
-most-fits k h = omega (arith, most-small k h)
 
 class-test : ℕ → ℕ → Bool
 unfolding house

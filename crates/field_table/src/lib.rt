@@ -33,7 +33,14 @@ pub fn most_of(number: usize) -> usize
     if 192 < number {
         return 0;
     }
-    MOST[number] as usize
+    widen(MOST[number])
+}
+
+// A length in the table as a number that can be reckoned with.
+fn widen(length: u16) -> usize
+    ensures { λ r. ⌜ r ≡ length ⌝ }
+{
+    length as usize
 }
 
 // The class of field number; b where there is no such field.
