@@ -1,5 +1,5 @@
 pub mod Permutation
-pub mod Search
+pub mod InverseTable
 pub mod Mapping
 pub mod Faults
 pub mod RoundTrip

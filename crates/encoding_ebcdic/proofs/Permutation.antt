@@ -2,13 +2,14 @@
 use Prim.Native.Nat.{ℕ, zero, suc, _<_}
 use mathlib.Core.Path.{_≡_, refl, sym, ap, _∙_}
 use mathlib.Core.Bool.{Bool}
-use mathlib.Core.List.{List, [], _∷_}
+use mathlib.Core.List.{List, [], _∷_, map}
 use native.Mathlib.Nat.{le-of-suc-le-suc, not-suc-le-zero}
 use native.Mathlib.Omega.{arith}
 use lib.Dec.{T, eqb, ltb, eqb→eq, ltb→lt}
 use lib.ListN.{length, getD}
+use Rattle.octets.specs.Lists.{lay}
 use Rattle.octets.proofs.Tables.{below, at}
-use Rattle.encoding_ebcdic.specs.Ebcdic.{table, placeIn, asciiOf, ebcdicOf, Permutes}
+use Rattle.encoding_ebcdic.specs.Ebcdic.{table, placeIn, entryIn, asciiOf, ebcdicOf, Permutes}
 
 -- the four tests at a byte b
 entry-test : ℕ → Bool
@@ -43,7 +44,7 @@ entry-byte : (b : ℕ) → b < 256 → getD table b 0 < 256
 unfolding entry-test
 entry-byte b h = ltb→lt (getD table b 0) 256 (at entry-test 256 entry-tested b h)
 
-pub place-byte : (b : ℕ) → b < 256 → placeIn b table < 256
+place-byte : (b : ℕ) → b < 256 → placeIn b table < 256
 unfolding place-test
 place-byte b h = ltb→lt (placeIn b table) 256 (at place-test 256 place-tested b h)
 
@@ -75,9 +76,17 @@ getD-inside [] i d e h = absurd (not-suc-le-zero h)
 getD-inside (x ∷ s) zero d e h = refl
 getD-inside (x ∷ s) (suc i) d e h = getD-inside s i d e (le-of-suc-le-suc h)
 
-pub entry-means : (b : ℕ) → b < 256 → getD table b 0 ≡ asciiOf b
-unfolding asciiOf
-entry-means b h = getD-inside table b 0 256 (omega (arith, table-length))
+pub entry-inside : (t : List ℕ) (b : ℕ) → b < length t → getD t b 0 ≡ entryIn t b
+unfolding entryIn
+entry-inside t b h = getD-inside t b 0 256 h
+
+entry-means : (b : ℕ) → b < 256 → getD table b 0 ≡ asciiOf b
+unfolding asciiOf entryIn
+entry-means b h = entry-inside table b (omega (arith, table-length))
+
+-- what is read from an array that is the table
+pub read-means : (t : List ℕ) → t ≡ table → (b : ℕ) → b < 256 → getD t b 0 ≡ asciiOf b
+read-means t e b h = rw e (entry-means b h)
 
 -- each of the two directions undoes the other, at a byte
 pub ascii-of-ebcdic : (x : ℕ) → x < 256 → asciiOf (ebcdicOf x) ≡ x
@@ -87,3 +96,8 @@ ascii-of-ebcdic x h = sym (entry-means (placeIn x table) (place-byte x h)) ∙ e
 pub ebcdic-of-ascii : (b : ℕ) → b < 256 → ebcdicOf (asciiOf b) ≡ b
 unfolding ebcdicOf
 ebcdic-of-ascii b h = ap (λ (x : ℕ). placeIn x table) (sym (entry-means b h)) ∙ place-entry b h
+
+-- Writing the entries of the table is decoding.
+pub table-lays : (e s d : List ℕ) → e ≡ lay (map (entryIn table) s) d → e ≡ lay (map asciiOf s) d
+unfolding entryIn asciiOf
+table-lays e s d w = w

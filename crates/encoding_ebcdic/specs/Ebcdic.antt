@@ -3,6 +3,7 @@
 --   table           == the meaning of each EBCDIC byte, in the order of the bytes
 --   Permutes t      == t is a permutation of the 256 byte values
 --   placeIn x t     == the first place of x in the list t, or t's length where it has none
+--   entryIn t b     == the entry of the list t at b; 256, which is no byte, where it has none
 --   asciiOf b       == the meaning of the EBCDIC byte b; 256, which is no byte, where b is none
 --   ebcdicOf x      == the EBCDIC byte whose meaning is x
 --   meansAscii b    == the meaning of b is ASCII
@@ -50,6 +51,9 @@ pub record Permutes (t : List ℕ) : Type 0 where
 abbrev pub placeIn : ℕ → List ℕ → ℕ
 placeIn x [] = zero
 placeIn x (y ∷ t) = cond (eqb y x) zero (suc (placeIn x t))
+
+unfoldable pub entryIn : List ℕ → ℕ → ℕ
+entryIn t b = getD t b 256
 
 unfoldable pub asciiOf : ℕ → ℕ
 asciiOf b = getD table b 256

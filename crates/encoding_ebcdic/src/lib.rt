@@ -1,4 +1,7 @@
 // EBCDIC: each byte stands for another by a table of 256 entries, in which every byte value stands once.
+mod inverse;
+
+use inverse::INVERSE;
 use octets::all_between;
 use refusal::NO_ASCII_MEANING;
 use refusal::OUTPUT_TOO_SHORT;
@@ -10,9 +13,9 @@ ghost use Prim.Native.Nat.{_≤_};
 ghost use lib.ListN.{length};
 ghost use Rattle.octets.specs.Lists.{lay};
 ghost use Rattle.refusal.specs.Refusals.{converted, convertedInto};
-ghost use Rattle.encoding_ebcdic.specs.Ebcdic.{asciiOf, ebcdicOf, encodeFault, decodeFault};
+ghost use Rattle.encoding_ebcdic.specs.Ebcdic.{table, asciiOf, ebcdicOf, entryIn, encodeFault, decodeFault};
 
-// What each EBCDIC byte means.
+// What each EBCDIC byte means. A call takes it into a local once: to index the constant would lay it down anew for each byte.
 const TABLE: [u8; 256] = [
     0x00,
     0x01,
@@ -292,7 +295,8 @@ pub fn encode(src: &[u8], out: &mut [u8]) -> Output
             position: 0,
         });
     }
-    put_encoded(src, out);
+    let bytes = INVERSE;
+    translate(src, &bytes, out);
     Output::Written(src.len())
 }
 
@@ -301,7 +305,8 @@ pub fn decode(src: &[u8], out: &mut [u8]) -> Output
     ensures answers { λ r. ⌜ r ≡ converted (decodeFault (now (src .entry))) (map asciiOf (now (src .entry))) (now (out .entry)) ⌝ }
     ensures writes { λ _. ⌜ now (out .exit) ≡ convertedInto (decodeFault (now (src .entry))) (map asciiOf (now (src .entry))) (now (out .entry)) ⌝ }
 {
-    let fault = decode_fault(src);
+    let meanings = TABLE;
+    let fault = decode_fault(src, &meanings);
     if fault != 0 {
         return Output::Refused(Refusal {
             number: fault,
@@ -316,7 +321,7 @@ pub fn decode(src: &[u8], out: &mut [u8]) -> Output
             position: 0,
         });
     }
-    put_decoded(src, out);
+    translate(src, &meanings, out);
     Output::Written(src.len())
 }
 
@@ -329,34 +334,13 @@ fn encode_fault(src: &[u8]) -> u8
     NO_ASCII_MEANING
 }
 
-fn put_encoded(src: &[u8], out: &mut [u8])
-    requires { ⌜ length (now src) ≤ length (now out) ⌝ }
-    ensures { λ _. ⌜ now (out .exit) ≡ lay (map ebcdicOf (now (src .entry))) (now (out .entry)) ⌝ }
-{
-    let mut k = 0;
-    while k < src.len() {
-        out[k] = ebcdic_of(src[k]);
-        k += 1;
-    }
-}
-
-// The EBCDIC byte that means x. The search ends, since every byte value has its place in the table.
-fn ebcdic_of(x: u8) -> u8
-    ensures { λ r. ⌜ r ≡ ebcdicOf x ⌝ }
-{
-    let mut i: usize = 0;
-    while TABLE[i] != x {
-        i += 1;
-    }
-    i as u8
-}
-
-fn decode_fault(src: &[u8]) -> u8
+fn decode_fault(src: &[u8], meanings: &[u8; 256]) -> u8
+    requires { ⌜ now meanings ≡ table ⌝ }
     ensures { λ r. ⌜ r ≡ decodeFault (now (src .entry)) ⌝ }
 {
     let mut i = 0;
     while i < src.len() {
-        if 0x7F < ascii_of(src[i]) {
+        if 0x7F < meanings[src[i] as usize] {
             return NO_ASCII_MEANING;
         }
         i += 1;
@@ -364,20 +348,15 @@ fn decode_fault(src: &[u8]) -> u8
     0
 }
 
-fn put_decoded(src: &[u8], out: &mut [u8])
+// Writes for each byte of src its entry in the table.
+fn translate(src: &[u8], entries: &[u8; 256], out: &mut [u8])
+    requires { ⌜ length (now entries) ≡ 256 ⌝ }
     requires { ⌜ length (now src) ≤ length (now out) ⌝ }
-    ensures { λ _. ⌜ now (out .exit) ≡ lay (map asciiOf (now (src .entry))) (now (out .entry)) ⌝ }
+    ensures { λ _. ⌜ now (out .exit) ≡ lay (map (entryIn (now (entries .entry))) (now (src .entry))) (now (out .entry)) ⌝ }
 {
-    let mut i = 0;
-    while i < src.len() {
-        out[i] = ascii_of(src[i]);
-        i += 1;
+    let mut k = 0;
+    while k < src.len() {
+        out[k] = entries[src[k] as usize];
+        k += 1;
     }
-}
-
-// What the EBCDIC byte b means.
-fn ascii_of(b: u8) -> u8
-    ensures { λ r. ⌜ r ≡ asciiOf b ⌝ }
-{
-    TABLE[b as usize]
 }

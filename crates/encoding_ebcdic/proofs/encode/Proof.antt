@@ -1,6 +1,7 @@
 -- A conversion has three ends: the source fails, the output is too short, or the bytes are written.
 use lib.ListN.{length-map}
 use Rattle.refusal.proofs.Conversions.{refused-answer, refused-output, short-answer, short-output, done-answer, done-output}
+use Rattle.encoding_ebcdic.proofs.InverseTable.{inverse, inverse-lays}
 use borrow.Author.Needs.{needs}
 use Rattle.encoding_ebcdic.proofs.encode.Statement.{statement}
 use Rattle.encoding_ebcdic.proofs.encode.Tie as tie
@@ -14,16 +15,17 @@ returns c = search (refused-answer, refused-output, needs)
 returns-2 : tie.Need-returns-2
 returns-2 c = search (short-answer, short-output, length-map, needs)
 
-put-encoded-requires : tie.Need-put-encoded-requires
-put-encoded-requires c κs = search needs
+translate-requires : tie.Need-translate-requires
+translate-requires c κs = search needs
 
 same-length : tie.Need-same-length
 same-length c = search needs
 
 returns-3 : tie.Need-returns-3
-returns-3 c = search (done-answer, done-output, length-map, needs)
+unfolding inverse
+returns-3 c = search (done-answer, done-output, inverse-lays, length-map, needs)
 
 pub encode-spec : {M : Type 1} → statement M
 encode-spec =
     tie.close
-    (tie.spec encode-fault-requires returns returns-2 put-encoded-requires same-length returns-3)
+    (tie.spec encode-fault-requires returns returns-2 translate-requires same-length returns-3)
