@@ -3,6 +3,7 @@ use Prim.Native.Nat.{ℕ, _%_, _≤_, _<_}
 use mathlib.Core.Path.{_≡_}
 use mathlib.Core.Bool.{Bool, true, false}
 use mathlib.Core.List.{List}
+use native.Mathlib.Omega.{arith}
 use lib.ListN.{length}
 use lib.Dec.{eqb}
 use Rattle.octets.proofs.Lists.{below-low, above-high, is-between}
@@ -14,9 +15,9 @@ module _ (s : List ℕ) (count : ℕ) (counted : count ≡ length (digitsIn s)) 
   unfolding isPan
   too-few h = rw (← counted, below-low leastDigits mostDigits count h)
 
-  pub too-many : leastDigits ≤ count → mostDigits < count → false ≡ isPan s
+  pub too-many : mostDigits < count → false ≡ isPan s
   unfolding isPan
-  too-many l h = rw (← counted, above-high leastDigits mostDigits count l h)
+  too-many h = rw (← counted, above-high leastDigits mostDigits count (omega (arith, h)) h)
 
   pub enough : leastDigits ≤ count → count ≤ mostDigits → (left : ℕ) → left ≡ luhnSum (digitsIn s) % 10 → eqb left 0 ≡ isPan s
   unfolding isPan

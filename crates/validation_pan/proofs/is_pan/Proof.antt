@@ -1,5 +1,6 @@
 use Rattle.validation_pan.proofs.Pan.{too-few, too-many, enough}
 use borrow.Author.Needs.{needs}
+use native.Mathlib.Omega.{arith}
 use Rattle.validation_pan.proofs.is_pan.Statement.{statement}
 use Rattle.validation_pan.proofs.is_pan.Tie as tie
 
@@ -7,7 +8,7 @@ count-digits-requires : tie.Need-count-digits-requires
 count-digits-requires c κs = search needs
 
 returns : tie.Need-returns
-returns c = search (too-few, needs)
+returns c = too-few _ _ (c .before .count-digits .ensures) (omega (arith, c .if1 .taken))
 
 returns-2 : tie.Need-returns-2
 returns-2 c = search (too-many, needs)
