@@ -1,3 +1,1 @@
-pub mod Encodings
 pub mod Spelling
-pub mod Words

@@ -17,7 +17,7 @@ use Rattle.field_table.specs.Table.{Table}
 use Rattle.message_language.specs.Language.{Entry}
 use Rattle.message_walk.specs.Walk.{entriesIn}
 use Rattle.message_write.specs.Written.{answerBy, paddedOn, paddedBy, shortIn}
-use Rattle.desk.specs.Desk.{cleaned, wordAt}
+use Rattle.desk_terms.specs.Terms.{cleaned, wordAt}
 use Rattle.desk.specs.Padded.{bytesIn, SpellThePadded}
 
 bit-most : (b : Bool) → bit b ≤ 1

@@ -12,8 +12,8 @@ use Rattle.refusal.specs.Refusals.{Told}
 use Rattle.field_table.specs.Table.{Table}
 use Rattle.message_walk.specs.Walk.{Test}
 use Rattle.message_write.specs.Written.{paddedBy}
-use Rattle.desk.specs.Desk.{cleaned}
-use Rattle.desk.specs.declared.Cleaned.{Cleaned}
+use Rattle.desk_terms.specs.Terms.{cleaned}
+use Rattle.desk_terms.specs.declared.Cleaned.{Cleaned}
 
 unfoldable pub bytesIn : Cleaned → List ℕ
 bytesIn c = bigEndian 8 (c .padded1) ++ (bigEndian 8 (c .padded2) ++ bigEndian 8 (c .padded3))

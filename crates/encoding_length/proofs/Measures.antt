@@ -7,11 +7,12 @@ use native.Mathlib.Omega.{arith}
 use lib.Dec.{eqb, leb}
 use lib.ListN.{length, take}
 use lib.Seq.{length-take-le}
-use borrow.Author.Tests.{le-leb, eq-eqb, ne-eqb, not-true, not-false}
+use borrow.Author.Tests.{eq-eqb, ne-eqb, not-true, not-false}
 use Rattle.octets.specs.Lists.{all}
 use Rattle.octets.specs.Numbers.{isDigit, decimalOf}
 use Rattle.octets.proofs.Cases.{by-bool, by-eq}
 use Rattle.octets.proofs.Lists.{lay-length}
+use Rattle.octets.proofs.Numbers.{number-read}
 use Rattle.refusal.specs.Numbers.{lengthNeedsDigits, byteCountWrong, lengthNotDigits}
 use Rattle.refusal.specs.Refusals.{plain, converted, convertedInto}
 use Rattle.refusal.specs.declared.Refusal.{Refusal}
@@ -31,7 +32,7 @@ module _ (flag : Bool) (t : List ℕ) (tested : flag ≡ all isDigit t) where
   number-fails g = rw (← tested, not-true flag g)
 
   pub number-passes : not flag ≡ false → (n : ℕ) → length t ≤ 16 → n ≡ cond (leb (length t) 16) (decimalOf t) 0 → Length n ≡ cond (all isDigit t) (Length (decimalOf t)) (Refused (plain lengthNotDigits))
-  number-passes g n h e = rw (← tested, not-false flag g, e, le-leb (length t) 16 h)
+  number-passes g n h e = rw (← tested, not-false flag g) (ap Length (number-read 10 0x30 16 n t h e))
 
 module _ (e : Encoding) (w : ℕ) (s : List ℕ) where
   measured-fails : (k : ℕ) → decodeFault e w s ≡ k → (k ≡ 0 → ⊥) → Refused (plain k) ≡ measured e w s

@@ -6,10 +6,11 @@ use mathlib.Core.List.{List}
 use native.Mathlib.Nat.{add-sub-cancel-left}
 use lib.Dec.{leb}
 use lib.ListN.{length, take, drop}
-use borrow.Author.Tests.{lt-ltb, le-ltb, le-leb, eq-eqb, ne-eqb, not-true, not-false}
+use borrow.Author.Tests.{lt-ltb, le-ltb, eq-eqb, ne-eqb, not-true, not-false}
 use native.Mathlib.Omega.{arith}
 use Rattle.octets.specs.Lists.{either, all}
 use Rattle.octets.specs.Numbers.{isDigit, isAscii, decimalOf}
+use Rattle.octets.proofs.Numbers.{number-read}
 use Rattle.refusal.specs.Numbers.{pastTheEnd, lengthNotDigits, lengthOverTable, textNotAscii}
 use Rattle.field_table.specs.Table.{isBinary}
 use Rattle.field_table.specs.declared.Class.{Class}
@@ -23,7 +24,7 @@ length-fixed w m ds e = rw (eq-eqb w 0 e)
 
 pub length-spelt : (w m n : ℕ) (ds : List ℕ) → length ds ≤ 3 → (w ≡ 0 → ⊥) → n ≡ cond (leb (length ds) 16) (decimalOf ds) 0 → n ≡ lengthOf w m ds
 unfolding lengthOf
-length-spelt w m n ds l h e = rw (ne-eqb w 0 h) (e ∙ rw (le-leb (length ds) 16 (omega arith)))
+length-spelt w m n ds l h e = rw (ne-eqb w 0 h) (number-read 10 0x30 16 n ds (omega (arith, l)) e)
 
 -- the ends of `read_item`
 module _ (w m : ℕ) (c : Class) (s : List ℕ) where

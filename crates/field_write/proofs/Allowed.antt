@@ -1,7 +1,7 @@
 -- What it says of a content that a writer does not refuse it, and where the two writers differ. Over any table. Assumes nothing.
-use Prim.Native.Nat.{ℕ, _≤_, _<_}
-use mathlib.Core.Path.{_≡_, refl}
-use mathlib.Core.Bool.{Bool, true, false, cond}
+use Prim.Native.Nat.{ℕ, _≤_}
+use mathlib.Core.Path.{_≡_}
+use mathlib.Core.Bool.{true, false}
 use mathlib.Core.List.{List}
 use native.Mathlib.Omega.{arith}
 use lib.Dec.{eqb, leb}
@@ -9,7 +9,7 @@ use lib.ListN.{length}
 use borrow.Author.Tests.{le-leb, leb-true, eq-eqb, eqb-true, le-ltb, ltb-false}
 use Rattle.octets.specs.Lists.{either, all}
 use Rattle.octets.specs.Numbers.{isAscii}
-use Rattle.octets.proofs.Cases.{by-bool}
+use Rattle.octets.proofs.Cases.{by-bool, passed}
 use Rattle.refusal.specs.Numbers.{lengthNotAllowed, textNotAscii}
 use Rattle.field_table.specs.Table.{Table, isBinary}
 use Rattle.field_table.specs.declared.Class.{Class}
@@ -24,11 +24,6 @@ pub record Clean (t : Table) (f : ℕ) (s : List ℕ) : Type 0 where
 pub record Exact (t : Table) (f : ℕ) (s : List ℕ) : Type 0 where
   pub fixed : t .width f ≡ 0 → length s ≡ t .most f
   pub clean : Clean t f s
-
--- a test that gives no fault was passed, and so were those behind it
-passed : (good : Bool) (rest bad : ℕ) → 0 < bad → cond good rest bad ≡ 0 → (good ≡ true) × (rest ≡ 0)
-passed true rest bad h e = (refl, e)
-passed false rest bad h e = absurd (omega arith)
 
 text-passed : (c : Class) (s : List ℕ) → textFault c s ≡ 0 → either (isBinary c) (all isAscii s) ≡ true
 unfolding textFault

@@ -1,13 +1,11 @@
 -- Reading a note: the ends of its readers with the facts as the code has them, and that what was written is read back. Assumes nothing.
 use Prim.Native.Nat.{ℕ, _+_, _-_, _≤_, _<_}
 use mathlib.Core.Path.{_≡_, refl, sym, ap, _∙_}
-use mathlib.Core.Bool.{cond}
 use mathlib.Core.List.{List, [], _∷_, _++_}
 use native.Mathlib.Omega.{arith}
-use lib.Dec.{leb}
-use lib.ListN.{length, take, drop, getD, length-append, length-take, length-drop}
+use lib.ListN.{length, take, drop, getD, length-append, length-drop}
 use lib.Seq.{take-at, take-append-le, drop-append-le}
-use borrow.Author.Tests.{eq-eqb, ne-eqb, lt-ltb, le-ltb, le-leb}
+use borrow.Author.Tests.{eq-eqb, ne-eqb, lt-ltb, le-ltb}
 use Rattle.octets.specs.Numbers.{bigEndian, bigEndianOf}
 use Rattle.octets.proofs.Numbers.{number-digits}
 use Rattle.message_language.specs.Language.{Entry}
@@ -34,10 +32,6 @@ note-end s r n e h = rw (ne-eqb (getD s 0 0) fieldKind n, eq-eqb (getD s 0 0) en
 pub note-other : (s : List ℕ) → (getD s 0 0 ≡ fieldKind → ⊥) → (getD s 0 0 ≡ endKind → ⊥) → Malformed ≡ noteAt s
 unfolding noteAt
 note-other s n e = rw (ne-eqb (getD s 0 0) fieldKind n, ne-eqb (getD s 0 0) endKind e)
-
--- a number read from a part of at most seven bytes
-pub part-number : (s : List ℕ) (a w n : ℕ) → w ≤ 7 → n ≡ cond (leb (length (take w (drop a s))) 7) (bigEndianOf (take w (drop a s))) 0 → n ≡ bigEndianOf (take w (drop a s))
-part-number s a w n h e = e ∙ rw (le-leb (length (take w (drop a s))) 7 (omega (arith, length-take w (drop a s))))
 
 -- the ends of `read_field_note` and `read_end_note`
 pub field-cut : (s : List ℕ) → length s < fieldNoteSize → Malformed ≡ fieldNoteAt s

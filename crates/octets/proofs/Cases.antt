@@ -1,7 +1,7 @@
 -- Going by cases on a test, with what the test says in hand. Assumes nothing.
 use Prim.Native.Nat.{ℕ, _<_, _≤_}
 use mathlib.Core.Path.{_≡_, refl, sym, _∙_}
-use mathlib.Core.Bool.{Bool, true, false, not}
+use mathlib.Core.Bool.{Bool, true, false, not, cond}
 use native.Mathlib.Omega.{arith}
 use lib.Dec.{ltb, leb, eqb}
 use borrow.Author.Tests.{ltb-true, ltb-false, leb-true, leb-false, eqb-true, eqb-false, not-true, not-false}
@@ -57,3 +57,8 @@ both-fails flag a b e t = rw (← e, not-true flag t)
 
 pub both-goes : (flag a b r : Bool) → flag ≡ a → not flag ≡ false → r ≡ b → r ≡ both a b
 both-goes flag a b r e t h = rw (← e, not-false flag t) h
+
+-- a test that gives no fault was passed, and so were those behind it
+pub passed : (good : Bool) (rest bad : ℕ) → 0 < bad → cond good rest bad ≡ 0 → (good ≡ true) × (rest ≡ 0)
+passed true rest bad h e = (refl, e)
+passed false rest bad h e = absurd (omega arith)

@@ -1,18 +1,18 @@
 -- Numbers and their digits, over the base and the width. Assumes nothing.
 use Prim.Native.Nat.{ℕ, zero, suc, _+_, _-_, _*_, _/_, _%_, _^_, _≤_, _<_}
 use mathlib.Core.Path.{_≡_, refl, sym, ap, _∙_}
-use mathlib.Core.Bool.{true, cond}
+use mathlib.Core.Bool.{Bool, true, false, not, cond}
 use mathlib.Core.List.{List, [], _∷_, _++_, append-assoc, append-nil}
 use native.Mathlib.Omega.{arith}
 use native.Mathlib.Numerals.{add-one}
 use native.Mathlib.Nat.{add-zero, zero-add, mod-lt, mod-eq-of-lt, div-add-mod', div-eq-of-lt, mul-add-mod-self-right, mul-add-div-right, div-lt-iff-lt-mul, pow-zero, pow-suc, pow-le-pow-right, le-antisymm}
-use lib.ListN.{length, take, drop, getD, set, length-append}
+use lib.ListN.{length, take, drop, getD, set, length-append, length-take}
 use lib.Seq.{drop-cons, drop-length, drop-at, set-split, length-take-le}
-use lib.Dec.{leb}
-use borrow.Author.Tests.{le-leb, lt-leb}
+use lib.Dec.{eqb, leb}
+use borrow.Author.Tests.{eq-eqb, ne-eqb, eqb-true, le-leb, lt-leb}
 use Rattle.octets.specs.Lists.{between, all, lay}
-use Rattle.octets.specs.Numbers.{digits, number}
-use Rattle.octets.proofs.Cases.{both-left, both-right}
+use Rattle.octets.specs.Numbers.{digits, number, isDigit, areDigits}
+use Rattle.octets.proofs.Cases.{both-left, both-right, tested-true}
 use Rattle.octets.proofs.Lists.{is-between, between-low, between-high, all-append}
 
 pub digits-length : (b z w n : ℕ) → length (digits b z w n) ≡ w
@@ -28,6 +28,23 @@ digits-between b z hi (suc w) n h k =
     let l : n % b < b = mod-lt n h in
     all-append (between z hi) (digits b z w (n / b)) ((z + n % b) ∷ []) (digits-between b z hi w (n / b) h k)
     (rw (is-between z hi (z + n % b) (omega arith) (omega arith)))
+
+-- So many digits, by the length and then each byte.
+module _ (n : ℕ) (s : List ℕ) where
+  pub are-digits-not : (length s ≡ n → ⊥) → false ≡ areDigits n s
+  unfolding areDigits
+  are-digits-not h = rw (ne-eqb (length s) n h)
+
+  pub are-digits-tested : length s ≡ n → (flag : Bool) → flag ≡ all isDigit s → flag ≡ areDigits n s
+  unfolding areDigits
+  are-digits-tested h flag e = rw (eq-eqb (length s) n h, ← e)
+
+  -- so many digits are so many bytes
+  pub are-digits-room : (flag : Bool) → flag ≡ areDigits n s → not flag ≡ false → (k : ℕ) → k ≤ n → k ≤ length s
+  unfolding areDigits
+  are-digits-room flag e t k h =
+      let d : length s ≡ n = eqb-true (length s) n (both-left (eqb (length s) n) (all isDigit s) (tested-true flag _ e t)) in
+      omega (arith, d, h)
 
 -- Storing the last digit first: one byte stored behind A, and then A, is both.
 store-behind : (A l : List ℕ) (x i : ℕ) → length A ≡ i → i < length l → lay (A ++ (x ∷ [])) l ≡ lay A (set l i x)
@@ -117,3 +134,13 @@ pub number-within : (b z m n i : ℕ) (s : List ℕ) → length s ≤ m → i �
 number-within b z m n i s h l u e =
     let z′ : i ≡ length s = le-antisymm l u in
     rw (le-leb (length s) m h) (sym (e ∙ rw z′ (number-end b z n s)))
+
+-- What it answers of no more bytes than that, and of a part so short.
+pub number-read : (b z m n : ℕ) (s : List ℕ) → length s ≤ m → n ≡ cond (leb (length s) m) (number b z 0 s) 0 → n ≡ number b z 0 s
+number-read b z m n s h e = e ∙ rw (le-leb (length s) m h)
+
+pub part-number : (b z m n : ℕ) (s : List ℕ) (a w : ℕ) → w ≤ m → n ≡ cond (leb (length (take w (drop a s))) m) (number b z 0 (take w (drop a s))) 0 → n ≡ number b z 0 (take w (drop a s))
+part-number b z m n s a w h e = number-read b z m n (take w (drop a s)) (omega (arith, length-take w (drop a s))) e
+
+pub part-big-endian : (n : ℕ) (s : List ℕ) (a w : ℕ) → w ≤ 8 → n ≡ cond (leb (length (take w (drop a s))) 8) (number 256 0 0 (take w (drop a s))) 0 → n ≡ number 256 0 0 (take w (drop a s))
+part-big-endian = part-number 256 0 8

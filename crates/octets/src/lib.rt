@@ -6,7 +6,7 @@ ghost use Prim.Native.Nat.{_+_, _-_, _≤_, _<_};
 ghost use lib.ListN.{length, replicate};
 ghost use lib.Dec.{leb};
 ghost use Rattle.octets.specs.Lists.{all, between, lead, lay, placed};
-ghost use Rattle.octets.specs.Numbers.{digits, decimal, decimalOf, bigEndian, bigEndianOf};
+ghost use Rattle.octets.specs.Numbers.{areDigits, digits, decimal, decimalOf, bigEndian, bigEndianOf};
 ghost use Rattle.octets.specs.Numerals.{digitCount, numeral};
 
 // A byte as a number that can be reckoned with.
@@ -50,6 +50,16 @@ pub fn all_between(s: &[u8], low: u8, high: u8) -> bool
     ensures { λ r. ⌜ r ≡ all (between low high) (now (s .entry)) ⌝ }
 {
     lead_between(s, low, high) == s.len()
+}
+
+// Whether s is n bytes long, all of them ASCII digits.
+pub fn are_digits(n: usize, s: &[u8]) -> bool
+    ensures { λ r. ⌜ r ≡ areDigits n (now (s .entry)) ⌝ }
+{
+    if s.len() != n {
+        return false;
+    }
+    all_between(s, 48, 57)
 }
 
 // Copies all of src to the front of out. Where it does not fit, out is left as it is.
@@ -156,11 +166,11 @@ fn digit_value(b: u8) -> usize
     (b - 48) as usize
 }
 
-// The number that big-endian bytes spell, up to seven of them; 0 where there are more.
+// The number that big-endian bytes spell, up to eight of them; 0 where there are more.
 pub fn big_endian_of(s: &[u8]) -> usize
-    ensures { λ r. ⌜ r ≡ cond (leb (length (now (s .entry))) 7) (bigEndianOf (now (s .entry))) 0 ⌝ }
+    ensures { λ r. ⌜ r ≡ cond (leb (length (now (s .entry))) 8) (bigEndianOf (now (s .entry))) 0 ⌝ }
 {
-    if 7 < s.len() {
+    if 8 < s.len() {
         return 0;
     }
     let mut n: usize = 0;

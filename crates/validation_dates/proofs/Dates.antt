@@ -1,53 +1,35 @@
 -- The ends of the checks of dates and times, with the facts as their code has them. Assumes nothing.
 use Prim.Native.Nat.{ℕ, _+_, _-_, _≤_, _<_}
-use mathlib.Core.Path.{_≡_, refl, _∙_}
+use mathlib.Core.Path.{_≡_, refl}
 use mathlib.Core.Bool.{Bool, true, false, not, cond}
 use mathlib.Core.List.{List}
 use native.Mathlib.Nat.{add-sub-cancel-left}
 use native.Mathlib.Omega.{arith}
-use lib.ListN.{length, take, drop, length-take, length-drop}
-use lib.Dec.{eqb, leb}
-use borrow.Author.Tests.{eq-eqb, ne-eqb, eqb-true, le-leb}
-use Rattle.octets.specs.Lists.{between, all}
-use Rattle.octets.specs.Numbers.{isDigit, decimalOf}
-use Rattle.octets.proofs.Cases.{both-left, tested-true, both-fails, both-goes}
+use lib.ListN.{length, take, drop}
+use lib.Dec.{leb}
+use Rattle.octets.specs.Lists.{between}
+use Rattle.octets.specs.Numbers.{areDigits, decimalOf}
+use Rattle.octets.proofs.Cases.{both-fails, both-goes}
 use Rattle.octets.proofs.Lists.{below-low, up-to-high}
+use Rattle.octets.proofs.Numbers.{part-number}
 use Rattle.refusal.specs.Numbers.{dateOrTimeWrong}
 use Rattle.refusal.specs.Refusals.{checked}
 use Rattle.refusal.specs.declared.Checked.{Checked}
 use Rattle.refusal.specs.declared.Checked.the-variants.{Passed}
 use Rattle.refusal.proofs.Checks.{checked-passed}
-use Rattle.validation_dates.specs.Dates.{areDigits, pair, isDate, isTime, dateFault, timeFault}
-
-module _ (n : ℕ) (s : List ℕ) where
-  pub digits-not : (length s ≡ n → ⊥) → false ≡ areDigits n s
-  unfolding areDigits
-  digits-not h = rw (ne-eqb (length s) n h)
-
-  pub digits-tested : length s ≡ n → (flag : Bool) → flag ≡ all isDigit s → flag ≡ areDigits n s
-  unfolding areDigits
-  digits-tested h flag e = rw (eq-eqb (length s) n h, ← e)
-
-  -- so many digits are so many bytes
-  pub digits-room : (flag : Bool) → flag ≡ areDigits n s → not flag ≡ false → (k : ℕ) → k ≤ n → k ≤ length s
-  unfolding areDigits
-  digits-room flag e t k h =
-      let d : length s ≡ n = eqb-true (length s) n (both-left (eqb (length s) n) (all isDigit s) (tested-true flag _ e t)) in
-      omega (arith, d, h)
+use Rattle.validation_dates.specs.Dates.{pair, isDate, isTime, dateFault, timeFault}
 
 -- The number that is read of a part of two bytes.
-pair-read : (s : List ℕ) (i n : ℕ) → i + 2 ≤ length s → n ≡ cond (leb (length (take (i + 2 - i) (drop i s))) 16) (decimalOf (take (i + 2 - i) (drop i s))) 0 → n ≡ pair i s
+pair-read : (s : List ℕ) (i n : ℕ) → n ≡ cond (leb (length (take (i + 2 - i) (drop i s))) 16) (decimalOf (take (i + 2 - i) (drop i s))) 0 → n ≡ pair i s
 unfolding pair
-pair-read s i n h e =
-    let two : length (take 2 (drop i s)) ≤ 16 = simp (length-take, length-drop) (omega (arith, h)) in
-    e ∙ (rw (add-sub-cancel-left i 2, le-leb (length (take 2 (drop i s))) 16 two) (refl {a = decimalOf (take 2 (drop i s))}))
+pair-read s i n e = part-number 10 0x30 16 n s i 2 (omega arith) (rw (add-sub-cancel-left i 2) at e)
 
-module _ (s : List ℕ) (i low high n : ℕ) (h : i + 2 ≤ length s) (e : n ≡ cond (leb (length (take (i + 2 - i) (drop i s))) 16) (decimalOf (take (i + 2 - i) (drop i s))) 0) where
+module _ (s : List ℕ) (i low high n : ℕ) (e : n ≡ cond (leb (length (take (i + 2 - i) (drop i s))) 16) (decimalOf (take (i + 2 - i) (drop i s))) 0) where
   pub pair-below : n < low → false ≡ between low high (pair i s)
-  pair-below l = rw (← pair-read s i n h e, below-low low high n l)
+  pair-below l = rw (← pair-read s i n e, below-low low high n l)
 
   pub pair-tested : low ≤ n → leb n high ≡ between low high (pair i s)
-  pair-tested l = rw (← pair-read s i n h e) (up-to-high low high n l)
+  pair-tested l = rw (← pair-read s i n e) (up-to-high low high n l)
 
 -- A date: digits, month, day.
 module _ (s : List ℕ) (four : Bool) (four-is : four ≡ areDigits 4 s) where

@@ -1,6 +1,5 @@
 -- The checks of a date and of a time of day. 01: "MMDD: four digits, month 1-12, day 1-31. hhmmss: six digits, 0-23, 0-59, 0-59."
 --
---   areDigits n s     == s is n bytes long, and each is a digit
 --   pair i s          == the number that the two digits of s from i on spell
 --   isDate s          == s is a date, as MMDD
 --   isTime s          == s is a time of day, as hhmmss
@@ -11,14 +10,10 @@
 use Prim.Native.Nat.{ℕ}
 use mathlib.Core.Bool.{Bool, cond}
 use mathlib.Core.List.{List}
-use lib.ListN.{length, take, drop}
-use lib.Dec.{eqb}
-use Rattle.octets.specs.Lists.{both, between, all}
-use Rattle.octets.specs.Numbers.{isDigit, decimalOf}
+use lib.ListN.{take, drop}
+use Rattle.octets.specs.Lists.{both, between}
+use Rattle.octets.specs.Numbers.{areDigits, decimalOf}
 use Rattle.refusal.specs.Numbers.{dateOrTimeWrong}
-
-unfoldable pub areDigits : ℕ → List ℕ → Bool
-areDigits n s = both (eqb (length s) n) (all isDigit s)
 
 unfoldable pub pair : ℕ → List ℕ → ℕ
 pair i s = decimalOf (take 2 (drop i s))

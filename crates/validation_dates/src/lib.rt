@@ -5,7 +5,7 @@ ghost use Prim.Native.Nat.{_+_, _≤_};
 ghost use lib.ListN.{length};
 ghost use Rattle.octets.specs.Lists.{between};
 ghost use Rattle.refusal.specs.Refusals.{checked};
-ghost use Rattle.validation_dates.specs.Dates.{areDigits, pair, isDate, isTime, dateFault, timeFault};
+ghost use Rattle.validation_dates.specs.Dates.{pair, isDate, isTime, dateFault, timeFault};
 
 // Checks one content as a date, MMDD.
 pub fn check_date(content: &[u8]) -> Checked
@@ -30,7 +30,7 @@ pub fn check_time(content: &[u8]) -> Checked
 fn is_date(s: &[u8]) -> bool
     ensures { λ r. ⌜ r ≡ isDate (now (s .entry)) ⌝ }
 {
-    if !are_digits(4, s) {
+    if !octets::are_digits(4, s) {
         return false;
     }
     if !is_pair_between(s, 0, 1, 12) {
@@ -42,7 +42,7 @@ fn is_date(s: &[u8]) -> bool
 fn is_time(s: &[u8]) -> bool
     ensures { λ r. ⌜ r ≡ isTime (now (s .entry)) ⌝ }
 {
-    if !are_digits(6, s) {
+    if !octets::are_digits(6, s) {
         return false;
     }
     if !is_pair_between(s, 0, 0, 23) {
@@ -52,16 +52,6 @@ fn is_time(s: &[u8]) -> bool
         return false;
     }
     is_pair_between(s, 4, 0, 59)
-}
-
-// Whether s is n bytes long, all of them digits.
-fn are_digits(n: usize, s: &[u8]) -> bool
-    ensures { λ r. ⌜ r ≡ areDigits n (now (s .entry)) ⌝ }
-{
-    if s.len() != n {
-        return false;
-    }
-    octets::all_between(s, 48, 57)
 }
 
 // Whether the two digits of s from i on spell a number between low and high.

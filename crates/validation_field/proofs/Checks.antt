@@ -6,8 +6,6 @@ use mathlib.Core.List.{List}
 use lib.ListN.{length}
 use lib.Dec.{eqb}
 use borrow.Author.Tests.{eq-eqb, ne-eqb, not-true, not-false}
-use Rattle.octets.specs.Lists.{all}
-use Rattle.octets.specs.Numbers.{isDigit}
 use Rattle.refusal.specs.Numbers.{numberNotAllowed, lengthNotAllowed, classBroken, amountZero}
 use Rattle.bitmap.specs.Bitmaps.{isField}
 use Rattle.field_table.specs.Table.{Table}
@@ -15,7 +13,7 @@ use Rattle.field_table.specs.declared.Class.{Class}
 use Rattle.field_class.specs.Classes.{conforms}
 use Rattle.field_write.specs.Fields.{isAllowedLength}
 use Rattle.validation_pan.specs.Pan.{panFault}
-use Rattle.validation_field.specs.Checks.{firstFailing, isAmountField, isZeros, valueTests, fieldTests, fieldFault, isCurrency}
+use Rattle.validation_field.specs.Checks.{firstFailing, isAmountField, isZeros, valueTests, fieldTests, fieldFault}
 
 -- The value: field 2, no amount, zeros, and an amount.
 module _ (f : ℕ) (s : List ℕ) where
@@ -43,16 +41,6 @@ amount-four f e = rw (eq-eqb f 4 e)
 
 pub amount-other : (f : ℕ) → (f ≡ 4 → ⊥) → eqb f 5 ≡ isAmountField f
 amount-other f h = rw (ne-eqb f 4 h)
-
--- A currency code.
-module _ (s : List ℕ) where
-  pub currency-not : (length s ≡ 3 → ⊥) → false ≡ isCurrency s
-  unfolding isCurrency
-  currency-not h = rw (ne-eqb (length s) 3 h)
-
-  pub currency-digits : length s ≡ 3 → (flag : Bool) → flag ≡ all isDigit s → flag ≡ isCurrency s
-  unfolding isCurrency
-  currency-digits h flag e = rw (eq-eqb (length s) 3 h, ← e)
 
 -- The tests in their order: number, class, length, value.
 module _ (t : Table) (f : ℕ) (s : List ℕ) (known : Bool) (known-is : known ≡ isField f) where

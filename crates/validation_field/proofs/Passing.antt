@@ -8,8 +8,8 @@ use lib.ListN.{length}
 use lib.Dec.{eqb}
 use borrow.Author.Tests.{ne-eqb}
 use Rattle.octets.specs.Lists.{both, between, all}
-use Rattle.octets.specs.Numbers.{isDigit}
-use Rattle.octets.proofs.Cases.{by-eq}
+use Rattle.octets.specs.Numbers.{isDigit, areDigits}
+use Rattle.octets.proofs.Cases.{by-eq, passed}
 use Rattle.octets.proofs.Lists.{between-low, between-high}
 use Rattle.refusal.specs.Numbers.{numberNotAllowed, classBroken, lengthNotAllowed}
 use Rattle.bitmap.specs.Bitmaps.{isField}
@@ -19,13 +19,8 @@ use Rattle.field_class.specs.Classes.{conforms}
 use Rattle.field_class.proofs.Text.{class-text}
 use Rattle.field_write.specs.Fields.{isAllowedLength}
 use Rattle.field_write.proofs.Allowed.{allowed-most, allowed-fixed-length, exact-passes}
-use Rattle.validation_field.specs.Checks.{Asked, asks, firstFailing, valueTests, fieldTests, fieldFault, isCurrency}
+use Rattle.validation_field.specs.Checks.{asks, firstFailing, valueTests, fieldTests, fieldFault, isCurrency}
 use Rattle.validation_field.specs.Passing.{TakenByWriter, DecidesCurrency}
-
--- where nothing fails, the first holds, and nothing behind it fails
-first-holds : (b : Bool) (n : ℕ) (l : List Asked) → 0 < n → firstFailing (asks b n ∷ l) ≡ 0 → (b ≡ true) × (firstFailing l ≡ 0)
-first-holds true n l h e = (refl, e)
-first-holds false n l h e = absurd (omega (arith, h, e))
 
 -- number, class and length hold of a content that passes
 pub record Passes (t : Table) (f : ℕ) (s : List ℕ) : Type 0 where
@@ -38,9 +33,9 @@ pub passes : (t : Table) (f : ℕ) (s : List ℕ) → fieldFault t f s ≡ 0 →
 unfolding fieldFault fieldTests
 passes t f s e =
     let last = asks (isAllowedLength t f (length s)) lengthNotAllowed ∷ valueTests f s in
-    let number = first-holds (isField f) numberNotAllowed (asks (conforms (t .class f) s) classBroken ∷ last) (omega arith) e in
-    let class = first-holds (conforms (t .class f) s) classBroken last (omega arith) (number .1) in
-    let fits = first-holds (isAllowedLength t f (length s)) lengthNotAllowed (valueTests f s) (omega arith) (class .1) in
+    let number = passed (isField f) (firstFailing (asks (conforms (t .class f) s) classBroken ∷ last)) numberNotAllowed (omega arith) e in
+    let class = passed (conforms (t .class f) s) (firstFailing last) classBroken (omega arith) (number .1) in
+    let fits = passed (isAllowedLength t f (length s)) (firstFailing (valueTests f s)) lengthNotAllowed (omega arith) (class .1) in
     record { number = number .0; class = class .0; fits = fits .0; value = fits .1 }
 
 pub taken-by-writer : (t : Table) → TakenByWriter t
@@ -62,15 +57,15 @@ only-then false true m n p q = ne-eqb m 0 (λ e. omega (arith, e, p))
 only-then false false m n p q = ne-eqb m 0 (λ e. omega (arith, e, p))
 
 at-49 : (s : List ℕ) → eqb (fieldFault house 49 s) 0 ≡ isCurrency s
-unfolding fieldFault fieldTests valueTests isCurrency house houseRows tableOf isField between isAllowedLength
+unfolding fieldFault fieldTests valueTests areDigits house houseRows tableOf isField between isAllowedLength
 at-49 s = only-then (all isDigit s) (eqb (length s) 3) classBroken lengthNotAllowed (omega arith) (omega arith)
 
 at-50 : (s : List ℕ) → eqb (fieldFault house 50 s) 0 ≡ isCurrency s
-unfolding fieldFault fieldTests valueTests isCurrency house houseRows tableOf isField between isAllowedLength
+unfolding fieldFault fieldTests valueTests areDigits house houseRows tableOf isField between isAllowedLength
 at-50 s = only-then (all isDigit s) (eqb (length s) 3) classBroken lengthNotAllowed (omega arith) (omega arith)
 
 at-51 : (s : List ℕ) → eqb (fieldFault house 51 s) 0 ≡ isCurrency s
-unfolding fieldFault fieldTests valueTests isCurrency house houseRows tableOf isField between isAllowedLength
+unfolding fieldFault fieldTests valueTests areDigits house houseRows tableOf isField between isAllowedLength
 at-51 s = only-then (all isDigit s) (eqb (length s) 3) classBroken lengthNotAllowed (omega arith) (omega arith)
 
 pub decides-currency : DecidesCurrency house

@@ -19,7 +19,7 @@ use mathlib.Core.List.{List, [], _∷_}
 use lib.ListN.{length}
 use lib.Dec.{eqb}
 use Rattle.octets.specs.Lists.{both, either, between, all}
-use Rattle.octets.specs.Numbers.{isDigit}
+use Rattle.octets.specs.Numbers.{areDigits}
 use Rattle.refusal.specs.Numbers.{numberNotAllowed, lengthNotAllowed, classBroken, panFails, amountZero}
 use Rattle.bitmap.specs.Bitmaps.{isField}
 use Rattle.field_table.specs.Table.{Table}
@@ -64,5 +64,5 @@ unfoldable pub fieldFault : Table → ℕ → List ℕ → ℕ
 fieldFault t f s = firstFailing (fieldTests t f s)
 
 -- 01: "the crate's currency check takes digits and decides"
-unfoldable pub isCurrency : List ℕ → Bool
-isCurrency s = both (eqb (length s) 3) (all isDigit s)
+abbrev pub isCurrency : List ℕ → Bool
+isCurrency = areDigits 3

@@ -57,8 +57,5 @@ fn is_amount_field(number: usize) -> bool
 pub fn is_currency(content: &[u8]) -> bool
     ensures { λ r. ⌜ r ≡ isCurrency (now (content .entry)) ⌝ }
 {
-    if content.len() != 3 {
-        return false;
-    }
-    octets::all_between(content, 48, 57)
+    octets::are_digits(3, content)
 }

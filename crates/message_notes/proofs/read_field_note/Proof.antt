@@ -1,6 +1,7 @@
 -- Each number is read from its own bytes.
 use Prim.Native.Nat.{_-_}
-use Rattle.message_notes.proofs.Reading.{part-number, field-cut, field-whole}
+use Rattle.octets.proofs.Numbers.{part-big-endian}
+use Rattle.message_notes.proofs.Reading.{field-cut, field-whole}
 use borrow.Author.Needs.{needs}
 use Rattle.message_notes.proofs.read_field_note.Statement.{statement}
 use Rattle.message_notes.proofs.read_field_note.Tie as tie
@@ -45,7 +46,7 @@ big-endian-of-requires-3 : tie.Need-big-endian-of-requires-3
 big-endian-of-requires-3 c κs = search needs
 
 returns-2 : tie.Need-returns-2
-returns-2 c = search (field-whole, part-number, needs)
+returns-2 c = search (field-whole, part-big-endian, needs)
 
 pub read-field-note-spec : {M : Type 1} → statement M
 read-field-note-spec =

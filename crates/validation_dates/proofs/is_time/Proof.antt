@@ -1,4 +1,5 @@
-use Rattle.validation_dates.proofs.Dates.{digits-room, time-no-digits, time-no-hour, time-no-minute, time-second}
+use Rattle.octets.proofs.Numbers.{are-digits-room}
+use Rattle.validation_dates.proofs.Dates.{time-no-digits, time-no-hour, time-no-minute, time-second}
 use borrow.Author.Needs.{needs}
 use Rattle.validation_dates.proofs.is_time.Statement.{statement}
 use Rattle.validation_dates.proofs.is_time.Tie as tie
@@ -10,19 +11,19 @@ returns : tie.Need-returns
 returns c = search (time-no-digits, needs)
 
 is-pair-between-requires : tie.Need-is-pair-between-requires
-is-pair-between-requires c κs = search (digits-room, needs)
+is-pair-between-requires c κs = search (are-digits-room, needs)
 
 returns-2 : tie.Need-returns-2
 returns-2 c = search (time-no-hour, needs)
 
 is-pair-between-requires-2 : tie.Need-is-pair-between-requires-2
-is-pair-between-requires-2 c κs = search (digits-room, needs)
+is-pair-between-requires-2 c κs = search (are-digits-room, needs)
 
 returns-3 : tie.Need-returns-3
 returns-3 c = search (time-no-minute, needs)
 
 is-pair-between-requires-3 : tie.Need-is-pair-between-requires-3
-is-pair-between-requires-3 c κs = search (digits-room, needs)
+is-pair-between-requires-3 c κs = search (are-digits-room, needs)
 
 returns-4 : tie.Need-returns-4
 returns-4 c = search (time-second, needs)

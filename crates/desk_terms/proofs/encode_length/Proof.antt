@@ -1,9 +1,9 @@
 -- One arm for each encoding, and 25 where there is none (Encodings).
 use Rattle.encoding_length.specs.declared.Encoding.the-variants.{Ascii, Bcd, Ebcdic}
-use Rattle.desk.proofs.Encodings.{encoded-in, encoded-none}
+use Rattle.desk_terms.proofs.Encodings.{encoded-in, encoded-none}
 use borrow.Author.Needs.{needs}
-use Rattle.desk.proofs.encode_length.Statement.{statement}
-use Rattle.desk.proofs.encode_length.Tie as tie
+use Rattle.desk_terms.proofs.encode_length.Statement.{statement}
+use Rattle.desk_terms.proofs.encode_length.Tie as tie
 
 encode-requires : tie.Need-encode-requires
 encode-requires c κs = search needs

@@ -1,9 +1,9 @@
 -- One arm for each encoding, and 25 where there is none (Encodings).
 use Rattle.encoding_length.specs.declared.Encoding.the-variants.{Ascii, Bcd, Ebcdic}
-use Rattle.desk.proofs.Encodings.{decoded-in, decoded-none}
+use Rattle.desk_terms.proofs.Encodings.{decoded-in, decoded-none}
 use borrow.Author.Needs.{needs}
-use Rattle.desk.proofs.decode_length.Statement.{statement}
-use Rattle.desk.proofs.decode_length.Tie as tie
+use Rattle.desk_terms.proofs.decode_length.Statement.{statement}
+use Rattle.desk_terms.proofs.decode_length.Tie as tie
 
 decode-requires : tie.Need-decode-requires
 decode-requires c κs = search needs

@@ -6,9 +6,9 @@ use lib.ListN.{take, drop}
 use Rattle.octets.specs.Numbers.{bigEndianOf}
 use Rattle.refusal.specs.Refusals.{told}
 use Rattle.refusal.specs.declared.Output.{Output}
-use Rattle.desk.specs.Desk.{written, cleaned, wordAt}
-use Rattle.desk.specs.declared.Written.{Written}
-use Rattle.desk.specs.declared.Cleaned.{Cleaned}
+use Rattle.desk_terms.specs.Terms.{written, cleaned, wordAt}
+use Rattle.desk_terms.specs.declared.Written.{Written}
+use Rattle.desk_terms.specs.declared.Cleaned.{Cleaned}
 
 module _ (a : Output) (t : Written) (s b : List ℕ) (x y z : ℕ) where
   abbrev made : Cleaned

@@ -1,8 +1,8 @@
 -- Each case tells its own numbers.
 use borrow.Author.Needs.{needs}
-use Rattle.desk.specs.Desk.{written}
-use Rattle.desk.proofs.tell_written.Statement.{statement}
-use Rattle.desk.proofs.tell_written.Tie as tie
+use Rattle.desk_terms.specs.Terms.{measurement}
+use Rattle.desk_terms.proofs.tell_measured.Statement.{statement}
+use Rattle.desk_terms.proofs.tell_measured.Tie as tie
 
 enum-known-answer : tie.Need-enum-known-answer
 enum-known-answer c = search needs
@@ -14,13 +14,13 @@ cast-t6 : tie.Need-cast-t6
 cast-t6 c = search needs
 
 returns : tie.Need-returns
-unfolding written
+unfolding measurement
 returns c = rw (c .before .answer .given .1)
 
 returns-2 : tie.Need-returns-2
-unfolding written
+unfolding measurement
 returns-2 c = rw (c .before .before .answer2 .given .1)
 
-pub tell-written-spec : {M : Type 1} → statement M
-tell-written-spec =
+pub tell-measured-spec : {M : Type 1} → statement M
+tell-measured-spec =
     tie.close (tie.spec enum-known-answer enum-known-answer-2 cast-t6 returns returns-2)

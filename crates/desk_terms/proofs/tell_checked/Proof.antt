@@ -1,8 +1,8 @@
 -- Each case tells its own numbers.
-use Rattle.desk.specs.Desk.{judgement}
+use Rattle.desk_terms.specs.Terms.{judgement}
 use borrow.Author.Needs.{needs}
-use Rattle.desk.proofs.tell_checked.Statement.{statement}
-use Rattle.desk.proofs.tell_checked.Tie as tie
+use Rattle.desk_terms.proofs.tell_checked.Statement.{statement}
+use Rattle.desk_terms.proofs.tell_checked.Tie as tie
 
 enum-told : tie.Need-enum-told
 enum-told c = search needs

@@ -29,12 +29,12 @@ use Rattle.encoding_length.specs.declared.Encoding.{Encoding}
 use Rattle.encoding_length.specs.declared.Encoding.the-variants.{Ascii, Bcd, Ebcdic}
 use Rattle.encoding_length.specs.declared.Measured.{Measured}
 use Rattle.encoding_length.specs.declared.Measured.the-variants.{Refused as NotMeasured}
-use Rattle.desk.specs.declared.Reading.{Reading}
-use Rattle.desk.specs.declared.Written.{Written}
-use Rattle.desk.specs.declared.Cleaned.{Cleaned}
-use Rattle.desk.specs.declared.Found.{Found}
-use Rattle.desk.specs.declared.Measurement.{Measurement}
-use Rattle.desk.specs.declared.Judgement.{Judgement}
+use Rattle.desk_terms.specs.declared.Reading.{Reading}
+use Rattle.desk_terms.specs.declared.Written.{Written}
+use Rattle.desk_terms.specs.declared.Cleaned.{Cleaned}
+use Rattle.desk_terms.specs.declared.Found.{Found}
+use Rattle.desk_terms.specs.declared.Measurement.{Measurement}
+use Rattle.desk_terms.specs.declared.Judgement.{Judgement}
 
 unfoldable pub reading : Told → Reading
 reading t =

@@ -1,16 +1,16 @@
-use Rattle.validation_dates.proofs.Dates.{digits-not, digits-tested}
+use Rattle.octets.proofs.Numbers.{are-digits-not, are-digits-tested}
 use borrow.Author.Needs.{needs}
-use Rattle.validation_dates.proofs.are_digits.Statement.{statement}
-use Rattle.validation_dates.proofs.are_digits.Tie as tie
+use Rattle.octets.proofs.are_digits.Statement.{statement}
+use Rattle.octets.proofs.are_digits.Tie as tie
 
 returns : tie.Need-returns
-returns c = search (digits-not, needs)
+returns c = search (are-digits-not, needs)
 
 all-between-requires : tie.Need-all-between-requires
 all-between-requires c κs = search needs
 
 returns-2 : tie.Need-returns-2
-returns-2 c = search (digits-tested, needs)
+returns-2 c = search (are-digits-tested, needs)
 
 pub are-digits-spec : {M : Type 1} → statement M
 are-digits-spec = tie.close (tie.spec returns all-between-requires returns-2)

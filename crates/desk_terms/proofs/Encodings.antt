@@ -13,7 +13,7 @@ use Rattle.encoding_length.specs.declared.Encoding.{Encoding}
 use Rattle.encoding_length.specs.declared.Encoding.the-variants.{Ascii, Bcd, Ebcdic}
 use Rattle.encoding_length.specs.declared.Measured.{Measured}
 use Rattle.encoding_length.specs.declared.Measured.the-variants.{Refused as NotMeasured}
-use Rattle.desk.specs.Desk.{numberOf, encodedBy, encodedInto, decodedBy}
+use Rattle.desk_terms.specs.Terms.{numberOf, encodedBy, encodedInto, decodedBy}
 
 pub encoded-in : (c : Encoding) (e w n : ℕ) (d o : List ℕ) (r : Output) → e ≡ numberOf c → (r ≡ converted (encodeFault w n) (spelt c (decimal w n)) d) × (o ≡ convertedInto (encodeFault w n) (spelt c (decimal w n)) d) → (r ≡ encodedBy e w n d) × (o ≡ encodedInto e w n d)
 unfolding encodedBy encodedInto
