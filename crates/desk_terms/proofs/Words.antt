@@ -15,5 +15,5 @@ module _ (a : Output) (t : Written) (s b : List ℕ) (x y z : ℕ) where
   made = record { number = t .number; field = t .field; position = t .position; length = t .length; padded1 = x; padded2 = y; padded3 = z }
 
   pub cleaned-is : t ≡ written (told a) → b ≡ s → x ≡ bigEndianOf (take 8 (drop 0 b)) → y ≡ bigEndianOf (take 8 (drop 8 b)) → z ≡ bigEndianOf (take 8 (drop 16 b)) → made ≡ cleaned (told a) s
-  unfolding written cleaned wordAt
+  unfolding cleaned wordAt
   cleaned-is h k p q r = rw (p, q, r, k, h)

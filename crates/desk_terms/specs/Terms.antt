@@ -2,7 +2,7 @@
 --
 --   reading t             == what a reading told, t, in numbers
 --   written t             == what a writing or a conversion told
---   cleaned t s           == what a cleaning told that padded the set of fields s
+--   cleaned t s           == what a cleaning told that padded the set of fields s: what a writing tells, and s in three words
 --   found t               == what a lookup told
 --   measurement t         == what the decoding of a length told
 --   judgement t           == what a check told
@@ -62,10 +62,10 @@ wordAt s i = bigEndianOf (take 8 (drop i s))
 unfoldable pub cleaned : Told → List ℕ → Cleaned
 cleaned t s =
     record {
-      number = t .refused .number;
-      field = t .refused .field;
-      position = t .refused .position;
-      length = getD (t .values) 0 0;
+      number = written t .number;
+      field = written t .field;
+      position = written t .position;
+      length = written t .length;
       padded1 = wordAt s 0;
       padded2 = wordAt s 8;
       padded3 = wordAt s 16;

@@ -73,7 +73,7 @@ pub struct Judgement {
     pub position: u64,
 }
 
-// The encoding as a number: 25 where it is none, before every other test, since no count of digits is enough in it.
+// Encoding with the encoding as a number: 25 where it is none, before every other test, since no count of digits is enough in it.
 pub fn encode_length(length: usize, digits: usize, encoding: u64, out: &mut [u8]) -> Output
     ensures answers { λ r. ⌜ r ≡ encodedBy encoding digits length (now (out .entry)) ⌝ }
     ensures writes { λ _. ⌜ now (out .exit) ≡ encodedInto encoding digits length (now (out .entry)) ⌝ }
@@ -86,6 +86,7 @@ pub fn encode_length(length: usize, digits: usize, encoding: u64, out: &mut [u8]
     }
 }
 
+// Decoding with the encoding as a number, in the same way.
 pub fn decode_length(source: &[u8], digits: usize, encoding: u64) -> Measured
     ensures { λ r. ⌜ r ≡ decodedBy encoding digits (now (source .entry)) ⌝ }
 {
@@ -103,6 +104,7 @@ const NO_ENCODING: Refusal = Refusal {
     position: 0,
 };
 
+// A reading, told.
 pub fn tell_read(answer: ReadAnswer) -> Reading
     ensures { λ r. ⌜ r ≡ reading (toldRead answer) ⌝ }
 {
@@ -124,15 +126,16 @@ pub fn tell_read(answer: ReadAnswer) -> Reading
     }
 }
 
+// A writing or a conversion, told.
 pub fn tell_written(answer: Output) -> Written
     ensures { λ r. ⌜ r ≡ written (told answer) ⌝ }
 {
     match answer {
-        Output::Written(length) => Written {
+        Output::Written(n) => Written {
             number: 0,
             field: 0,
             position: 0,
-            length: length as u64,
+            length: n as u64,
         },
         Output::Refused(why) => Written {
             number: why.number as u64,
@@ -143,6 +146,7 @@ pub fn tell_written(answer: Output) -> Written
     }
 }
 
+// A cleaning and the fields that it padded, told.
 pub fn tell_cleaned(answer: Output, padded: FieldSet) -> Cleaned
     ensures { λ r. ⌜ r ≡ cleaned (told answer) (padded .bits) ⌝ }
 {
@@ -159,6 +163,7 @@ pub fn tell_cleaned(answer: Output, padded: FieldSet) -> Cleaned
     }
 }
 
+// A lookup, told.
 pub fn tell_found(answer: message_lookup::Found) -> Found
     ensures { λ r. ⌜ r ≡ found (toldFound answer) ⌝ }
 {
@@ -180,6 +185,7 @@ pub fn tell_found(answer: message_lookup::Found) -> Found
     }
 }
 
+// The decoding of a length, told.
 pub fn tell_measured(answer: Measured) -> Measurement
     ensures { λ r. ⌜ r ≡ measurement (toldLength answer) ⌝ }
 {
@@ -199,6 +205,7 @@ pub fn tell_measured(answer: Measured) -> Measurement
     }
 }
 
+// A check, told.
 pub fn tell_checked(answer: Checked) -> Judgement
     ensures { λ r. ⌜ r ≡ judgement (toldChecked answer) ⌝ }
 {

@@ -42,7 +42,7 @@ part-result-end c =
     let a = l .before .before .before .args in
     let h = sym (l .look-up .ensures) ∙ k .before .offset .given .1 in
     let i = looked-inside (a .values .now) (a .notes .now) (a .number) _ _ h in
-    i
+    omega arith
 
 returns : tie.Need-returns
 returns c =
