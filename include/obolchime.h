@@ -13,8 +13,9 @@
  * No function keeps a pointer, allocates, prints, exits or has a state of its own: calls from several threads need no lock.
  *
  * Every answer begins with number, field and position. All three are 0 where the call is accepted. A refusal has its number (below),
- * the field that it is about (0 if none) and a position: in the message for obol_read, in the notes for obol_look_up and the writers,
- * else 0. A refusal changes no byte of any buffer, and the rest of its answer is 0. An accepted call touches no byte beyond what it wrote.
+ * the field that it is about (0 if none) and a position: in the message for obol_read; in the notes for obol_look_up, the writers and
+ * obol_check_required (there but for 19); else 0. A refusal changes no byte of any buffer, and the rest of its answer is 0. An accepted
+ * call touches no byte beyond what it wrote.
  */
 #ifndef OBOLCHIME_H
 #define OBOLCHIME_H

@@ -1,6 +1,6 @@
 // Bitmaps: which fields a message has. 01, "The message".
 ghost use mathlib.Core.Path.{_≡_};
-ghost use Prim.Native.Nat.{_<_, _≤_, _-_, _^_, min};
+ghost use Prim.Native.Nat.{_<_, _≤_, min};
 ghost use mathlib.Core.Bool.{true};
 ghost use Rattle.octets.specs.Lists.{all, between};
 ghost use Rattle.bitmap.specs.Bits.{bitOf, withBit};

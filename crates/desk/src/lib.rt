@@ -1,5 +1,5 @@
-// The desk: what programs in C, Rust or another language link. Each open routine of the library under a plain name, its answer told
-// in the terms of desk_terms.
+// The desk: what programs in C, Rust or another language link. The reader, the writers, lookup, checks and conversions under plain
+// names, their answers told in the terms of desk_terms.
 use desk_terms::Cleaned;
 use desk_terms::Found;
 use desk_terms::Judgement;

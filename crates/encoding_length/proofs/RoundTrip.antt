@@ -1,12 +1,12 @@
 -- A length that is encoded is decoded again, and an indicator that is decoded is encoded again, over the digit count and
 -- the encoding. Assumes nothing.
-use Prim.Native.Nat.{ℕ, _^_, _<_}
+use Prim.Native.Nat.{ℕ}
 use mathlib.Core.Path.{_≡_, refl, sym, ap, _∙_}
 use mathlib.Core.Bool.{true}
 use mathlib.Core.List.{List}
 use native.Mathlib.Omega.{arith}
 use lib.ListN.{length, length-map}
-use borrow.Author.Tests.{eq-eqb, ne-eqb, lt-ltb}
+use borrow.Author.Tests.{eq-eqb, ne-eqb}
 use Rattle.octets.specs.Lists.{all}
 use Rattle.octets.specs.Numbers.{isDigit, decimal, decimalOf}
 use Rattle.octets.proofs.Cases.{by-bool, by-eq}
@@ -67,11 +67,6 @@ module _ (e : Encoding) (w n : ℕ) (good : encodeFault w n ≡ 0) where
   measured-encoded =
       sym (measured-passes e w (spelt e (decimal w n)) spelt-decodes)
       ∙ rw (text, number-digits 10 48 w n (omega arith) (fault-fits 0 w n (sym good) refl))
-
--- Two or three digits take every length below their power of ten.
-pub width-takes : (w n : ℕ) → isWidth w ≡ true → n < 10 ^ w → encodeFault w n ≡ 0
-unfolding encodeFault
-width-takes w n t h = rw (t, lt-ltb n (10 ^ w) h)
 
 -- bytes that are not refused come back from their text
 spelt-text : (e : Encoding) (w : ℕ) (s : List ℕ) → alphabetFault e w s ≡ 0 → spelt e (textOf e w s) ≡ s

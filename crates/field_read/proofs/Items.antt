@@ -12,10 +12,11 @@ use Rattle.octets.specs.Lists.{either, all}
 use Rattle.octets.specs.Numbers.{isDigit, isAscii, decimalOf}
 use Rattle.octets.proofs.Numbers.{number-read}
 use Rattle.refusal.specs.Numbers.{pastTheEnd, lengthNotDigits, lengthOverTable, textNotAscii}
-use Rattle.field_table.specs.Table.{isBinary}
+use Rattle.field_table.specs.Table.{Table, isBinary}
 use Rattle.field_table.specs.declared.Class.{Class}
+use Rattle.field_read.specs.declared.FieldRead.{FieldRead}
 use Rattle.field_read.specs.declared.FieldRead.the-variants.{Content, Refused}
-use Rattle.field_read.specs.Items.{lengthOf, readSized, readItem}
+use Rattle.field_read.specs.Items.{lengthOf, readSized, readItem, readField}
 
 -- the ends of `content_length`
 pub length-fixed : (w m : ℕ) (ds : List ℕ) → w ≡ 0 → m ≡ lengthOf w m ds
@@ -58,3 +59,8 @@ module _ (w m : ℕ) (c : Class) (s : List ℕ) where
           pub item-read : not flag2 ≡ false → Content w n ≡ readItem w m c s
           unfolding readItem readSized
           item-read t = rw (le-ltb (length s) w whole, ← tested, not-false flag digits, ← is-n, le-ltb m n short, le-ltb (length s - w) n room, ← same, not-false flag2 t)
+
+-- `read_field`: what the table says is passed on
+pub field-by : (t : Table) (f w m : ℕ) (c : Class) (s : List ℕ) (r : FieldRead) → w ≡ t .width f → m ≡ t .most f → c ≡ t .class f → r ≡ readItem w m c s → r ≡ readField t f s
+unfolding readField
+field-by t f w m c s r a b d e = rw (← a, ← b, ← d) e

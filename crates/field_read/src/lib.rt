@@ -1,8 +1,8 @@
 // Reading one field from the rest of a message. 01, "The message" and "Reader order".
 use field_table::Class;
 ghost use mathlib.Core.Path.{_≡_};
-ghost use Prim.Native.Nat.{_≤_, _+_};
-ghost use lib.ListN.{length, take, drop};
+ghost use Prim.Native.Nat.{_≤_};
+ghost use lib.ListN.{length};
 ghost use Rattle.octets.specs.Lists.{either, all};
 ghost use Rattle.octets.specs.Numbers.{isAscii};
 ghost use Rattle.field_table.specs.Table.{isBinary};

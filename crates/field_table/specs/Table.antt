@@ -1,4 +1,4 @@
--- A field table: what is known of a field by its number. Every definition of language, reader, writers and checks takes a table.
+-- A field table: what is known of a field by its number. Every definition of language, reader, writers and the field check takes a table.
 --
 --   Table            == width f: how many length digits field f has (0 fixed, 2 LL, 3 LLL);
 --                       most f: its length where it is fixed, else its greatest; class f: its class
@@ -7,6 +7,7 @@
 --   fixed a b m c    == the fields a to b are m bytes long, of class c
 --   LL a b m c       == they have two length digits and are up to m bytes long
 --   LLL a b m c      == the same with three
+--   none             == the row of a number that no row has: fixed, 0 bytes, class b
 --   find rows f      == the first row that has field f; `none` where no row has it
 --   tableOf rows     == the table that the rows make
 --   isBinary c       == contents of class c may hold any byte; those of the others are text

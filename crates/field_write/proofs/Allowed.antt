@@ -93,9 +93,3 @@ module _ (t : Table) (f : ℕ) (s : List ℕ) where
 
   pub exact-not-short : exactFault t f s ≡ 0 → isShort t f (length s) ≡ false
   exact-not-short e = long-not-short t f (length s) (λ z. let q = exact-passed e .fixed z in omega arith)
-
-  -- what the cleaning writer takes and does not pad, the exact writer takes
-  pub not-short-exact : isShort t f (length s) ≡ false → cleanFault t f s ≡ 0 → exactFault t f s ≡ 0
-  not-short-exact h e =
-      let c = clean-passed e in
-      exact-passes record { fixed = λ z. let l = not-short-long t f (length s) h z in let m = c .most in omega arith; clean = c }

@@ -1,13 +1,13 @@
--- A content as it stands in its field, and the field's bytes: nothing is cut, and what was cleaned is exact. Over any table. Assumes nothing.
-use Prim.Native.Nat.{ℕ, zero, suc, _+_, _≤_, _<_}
+-- A content as it stands in its field, and the field's bytes; what was cleaned is exact. Over any table. Assumes nothing.
+use Prim.Native.Nat.{ℕ, zero, suc, _+_, _≤_}
 use mathlib.Core.Path.{_≡_, refl, sym, ap, _∙_}
 use mathlib.Core.Bool.{Bool, true, false, cond}
-use mathlib.Core.List.{List, [], _++_, append-assoc, append-nil}
+use mathlib.Core.List.{List, _++_}
 use native.Mathlib.Nat.{lt-of-le-of-lt}
 use native.Mathlib.Omega.{arith}
 use lib.Dec.{leb}
 use lib.ListN.{length, replicate, length-append, length-replicate}
-use borrow.Author.Tests.{le-leb, ltb-true}
+use borrow.Author.Tests.{le-leb}
 use Rattle.octets.specs.Lists.{either, between, all}
 use Rattle.octets.specs.Numbers.{isAscii, digits, decimal, decimalOf}
 use Rattle.octets.proofs.Cases.{by-bool, by-eq}
@@ -19,17 +19,7 @@ use Rattle.field_table.specs.declared.Class.the-variants.{N, A, An, Ans, Ns, Z,
 use Rattle.field_table.proofs.Rows.{Small}
 use Rattle.field_write.specs.Fields.{exactFault, cleanFault, isShort, missing, padByte, padsLeft, padded, cleaned, fieldBytes, writtenSize, longest}
 use Rattle.field_write.proofs.Allowed.{clean-passed, exact-passes, exact-not-short, not-short-long}
-use Rattle.field_write.proofs.Padding.{missing-variable, missing-fixed, short-missing, padded-none}
-
--- what stands before a content in its field's bytes, and what behind it: the length digits, and the padding on one side
-unfoldable pub padding : Table → ℕ → List ℕ → List ℕ
-padding t f s = replicate (missing t f (length s)) (padByte (t .class f))
-
-unfoldable pub before : Table → ℕ → List ℕ → List ℕ
-before t f s = decimal (t .width f) (length s) ++ cond (padsLeft (t .class f)) (padding t f s) []
-
-unfoldable pub after : Table → ℕ → List ℕ → List ℕ
-after t f s = cond (padsLeft (t .class f)) [] (padding t f s)
+use Rattle.field_write.proofs.Padding.{missing-variable, missing-fixed, padded-none}
 
 pub padded-length : (c : Class) (k : ℕ) (s : List ℕ) → length (padded c k s) ≡ length s + k
 unfolding padded
@@ -72,13 +62,6 @@ module _ (t : Table) (f : ℕ) (s : List ℕ) where
   written-size =
       length-append (decimal (t .width f) (length s)) (cleaned t f s) ∙ omega (arith, digits-length 10 48 (t .width f) (length s), cleaned-length)
 
-  -- 01: "Nothing is cut": the whole content stands in the bytes
-  pub content-stands : fieldBytes t f s ≡ before t f s ++ (s ++ after t f s)
-  unfolding fieldBytes cleaned padded before after padding
-  content-stands =
-      let d = decimal (t .width f) (length s) in
-      by-bool (padsLeft (t .class f)) (λ e. rw (e, append-nil s) (sym (append-assoc d (padding t f s) s))) (λ e. rw (e, append-nil d))
-
   -- a content with nothing missing is written as it is
   whole : missing t f (length s) ≡ 0 → cleaned t f s ≡ s
   unfolding cleaned
@@ -90,10 +73,6 @@ module _ (t : Table) (f : ℕ) (s : List ℕ) where
       (by-eq (t .width f) 0
       (λ z. missing-fixed t f (length s) z ∙ (let l = not-short-long t f (length s) h z in omega arith))
       (λ v. missing-variable t f (length s) v))
-
-  -- one that is short is padded
-  pub short-grows : isShort t f (length s) ≡ true → length s < length (cleaned t f s)
-  short-grows h = omega (arith, cleaned-length, ltb-true 0 (missing t f (length s)) (short-missing t f (length s) ∙ h))
 
   pub exact-unpadded : exactFault t f s ≡ 0 → fieldBytes t f s ≡ decimal (t .width f) (length s) ++ s
   unfolding fieldBytes
@@ -125,9 +104,6 @@ module _ (t : Table) (f : ℕ) (s : List ℕ) where
         fixed = clean-allowed e;
         clean = record { most = cleaned-most e; text = cleaned-text (clean-passed t f s e .text) };
       }
-
-  pub clean-text-ascii : cleanFault t f s ≡ 0 → isBinary (t .class f) ≡ false → all isAscii (cleaned t f s) ≡ true
-  clean-text-ascii e b = rw b at (cleaned-text (clean-passed t f s e .text))
 
 pub cleaned-bytes : (t : Table) (f : ℕ) (s : List ℕ) → cleanFault t f s ≡ 0 → fieldBytes t f (cleaned t f s) ≡ fieldBytes t f s
 unfolding fieldBytes digits

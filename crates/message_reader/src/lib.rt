@@ -2,13 +2,12 @@
 use field_read::FieldRead;
 use refusal::Refusal;
 ghost use mathlib.Core.Path.{_≡_};
-ghost use Prim.Native.Nat.{_≤_, _<_, _+_, _*_};
-ghost use lib.ListN.{length, take, drop};
+ghost use Prim.Native.Nat.{_≤_, _+_, _*_};
+ghost use lib.ListN.{length};
 ghost use Rattle.octets.specs.Lists.{lay};
 ghost use Rattle.field_table.specs.House.{house};
-ghost use Rattle.bitmap.specs.Bitmaps.{fieldsOf};
 ghost use Rattle.message_notes.specs.Notes.{notesOf, fieldNotes, notesRoom, fieldNoteSize};
-ghost use Rattle.message_reader.specs.Reader.{headRead, mapsRead, mapsOf, readBody, entriesOf, readingWith, readAnswer, notesAfter};
+ghost use Rattle.message_reader.specs.Reader.{headRead, mapsRead, readBody, readingWith, readAnswer, notesAfter};
 
 // The bytes used and the count of bitmaps, or the refusal.
 pub enum ReadAnswer {

@@ -196,6 +196,10 @@ any-is t = refl
 pub judged-any : (t : Table) (v : List ℕ) (m m′ last : ℕ) (s : List ℕ) (o : Judged) → o ≡ judged (testOf t Any) v m last s → m ≡ m′ → o ≡ judged any v m′ last s
 judged-any t v m m′ last s o e h = counted any v m m′ last s o (e ∙ ap (λ (p : Test). judged p v m last s) (any-is t)) h
 
+-- `fault_of`: what holds by the rule that an arm names holds by the rule that was given
+pub rule-is : (t : Table) (r k : Rule) (f : ℕ) (s : List ℕ) (n : ℕ) → r ≡ k → n ≡ testOf t k f s → n ≡ testOf t r f s
+rule-is t r k f s n e h = h ∙ ap (λ (x : Rule). testOf t x f s) (sym e)
+
 -- `walk`
 module _ (t : Table) (r : Rule) (v n : List ℕ) (fault : ℕ) (found : fault ≡ headNumber n) where
   pub walk-head : (fault ≡ 0 → ⊥) → WalkRefused (plain fault) ≡ walkedBy t r v n

@@ -1,4 +1,5 @@
 -- 01's refusal numbers, by name; each is given exactly when 01's table says, for the first test that fails.
+-- Each name stands below with its number and what 01 says of it.
 --
 -- Assumes nothing: these are definitions.
 use Prim.Native.Nat.{ℕ}

@@ -2,6 +2,7 @@
 -- four lines: `mti 0800`, `bitmaps 1`, `field 3 at 12 length 6`, `used 18`. A refusal is one line: `refused 7 field 2 at 12`."
 --
 --   newline              == the byte that ends a line
+--   space                == the byte between words
 --   named w n e          == the word w, a space, the number n in decimal and the byte e
 --   tripled a x b y c z  == a line of three words, each with its number
 --   mtiLine mti          == the line of an MTI

@@ -71,8 +71,8 @@ at-51 s = only-then (all isDigit s) (eqb (length s) 3) classBroken lengthNotAllo
 pub decides-currency : DecidesCurrency house
 unfolding DecidesCurrency
 decides-currency f s h =
-    let l = between-low 49 51 f h in
-    let u = between-high 49 51 f h in
+    let l = between-low _ _ f h in
+    let u = between-high _ _ f h in
     by-eq f 49
     (λ e. ap (λ (g : ℕ). eqb (fieldFault house g s) 0) e ∙ at-49 s)
     (λ n. by-eq f 50

@@ -1,4 +1,5 @@
 -- The wrapped routine's answer, told; the buffer as it leaves it.
+use Rattle.desk_terms.proofs.Telling.{written-told}
 use borrow.Author.Needs.{needs}
 use Rattle.desk.proofs.obol_bcd_encode.Statement.{statement}
 use Rattle.desk.proofs.obol_bcd_encode.Tie as tie
@@ -13,7 +14,7 @@ same-length : tie.Need-same-length
 same-length c = search needs
 
 returns : tie.Need-returns
-returns c = (cc, search needs)
+returns c = (search (written-told, needs), search needs)
 
 pub obol-bcd-encode-spec : {M : Type 1} → statement M
 obol-bcd-encode-spec =

@@ -1,5 +1,6 @@
 -- Each arm passes on what it called.
 use Prim.Native.Nat.{_-_}
+use Rattle.field_class.proofs.Classes.{conforms-in}
 use borrow.Author.Needs.{needs}
 use Rattle.field_class.proofs.is_of_class.Statement.{statement}
 use Rattle.field_class.proofs.is_of_class.Tie as tie
@@ -53,28 +54,28 @@ all-allowed-requires-7 : tie.Need-all-allowed-requires-7
 all-allowed-requires-7 c κs = search needs
 
 returns : tie.Need-returns
-returns c = cc
+returns c = search (conforms-in, needs)
 
 returns-2 : tie.Need-returns-2
-returns-2 c = cc
+returns-2 c = search (conforms-in, needs)
 
 returns-3 : tie.Need-returns-3
-returns-3 c = cc
+returns-3 c = search (conforms-in, needs)
 
 returns-4 : tie.Need-returns-4
-returns-4 c = cc
+returns-4 c = search (conforms-in, needs)
 
 returns-5 : tie.Need-returns-5
-returns-5 c = cc
+returns-5 c = search (conforms-in, needs)
 
 returns-6 : tie.Need-returns-6
-returns-6 c = cc
+returns-6 c = search (conforms-in, needs)
 
 returns-7 : tie.Need-returns-7
-returns-7 c = cc
+returns-7 c = search (conforms-in, needs)
 
 returns-8 : tie.Need-returns-8
-returns-8 c = cc
+returns-8 c = search (conforms-in, needs)
 
 pub is-of-class-spec : {M : Type 1} → statement M
 is-of-class-spec =

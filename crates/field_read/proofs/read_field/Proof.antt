@@ -1,7 +1,7 @@
 -- What the table says is passed on.
 use Prim.Native.Nat.{_-_}
 use Rattle.field_table.proofs.Rows.{house-small}
-use Rattle.field_read.specs.Items.{readField}
+use Rattle.field_read.proofs.Items.{field-by}
 use borrow.Author.Needs.{needs}
 use native.Mathlib.Omega.{arith}
 use Rattle.field_read.proofs.read_field.Statement.{statement}
@@ -20,8 +20,7 @@ read-item-requires : tie.Need-read-item-requires
 read-item-requires c κs = omega (arith, c .before .before .width-of .ensures, house-small .width-small (c .before .before .before .before .args .number))
 
 returns : tie.Need-returns
-unfolding readField
-returns c = cc
+returns c = search (field-by, needs)
 
 pub read-field-spec : {M : Type 1} → statement M
 read-field-spec =

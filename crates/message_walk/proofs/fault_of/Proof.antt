@@ -1,6 +1,7 @@
 -- Each arm passes on what it called.
 use Prim.Native.Nat.{_-_}
 use Rattle.message_walk.specs.Answers.{testOf}
+use Rattle.message_walk.proofs.Ends.{rule-is}
 use borrow.Author.Needs.{needs}
 use Rattle.message_walk.proofs.fault_of.Statement.{statement}
 use Rattle.message_walk.proofs.fault_of.Tie as tie
@@ -22,15 +23,15 @@ clean-fault-requires c κs = search needs
 
 returns : tie.Need-returns
 unfolding testOf
-returns c = cc
+returns c = search (rule-is, needs)
 
 returns-2 : tie.Need-returns-2
 unfolding testOf
-returns-2 c = cc
+returns-2 c = search (rule-is, needs)
 
 returns-3 : tie.Need-returns-3
 unfolding testOf
-returns-3 c = cc
+returns-3 c = search (rule-is, needs)
 
 pub fault-of-spec : {M : Type 1} → statement M
 fault-of-spec =

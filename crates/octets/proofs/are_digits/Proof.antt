@@ -1,3 +1,4 @@
+-- One law for each end, in Numbers.
 use Rattle.octets.proofs.Numbers.{are-digits-not, are-digits-tested}
 use borrow.Author.Needs.{needs}
 use Rattle.octets.proofs.are_digits.Statement.{statement}

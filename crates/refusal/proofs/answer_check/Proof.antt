@@ -1,3 +1,4 @@
+-- One law for each end, in Checks.
 use borrow.Author.Needs.{needs}
 use Rattle.refusal.proofs.Checks.{checked-passed, checked-failed}
 use Rattle.refusal.proofs.answer_check.Statement.{statement}

@@ -1,3 +1,4 @@
+-- One law for each end, in Dates.
 use Rattle.validation_dates.proofs.Dates.{date-good, date-bad}
 use borrow.Author.Needs.{needs}
 use Rattle.validation_dates.proofs.check_date.Statement.{statement}

@@ -1,3 +1,4 @@
+-- One law for each end, in Dates.
 use Rattle.validation_dates.proofs.Dates.{pair-below, pair-tested}
 use borrow.Author.Needs.{needs}
 use Rattle.validation_dates.proofs.is_pair_between.Statement.{statement}

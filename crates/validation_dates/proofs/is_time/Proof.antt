@@ -1,3 +1,4 @@
+-- One law for each end, in Dates.
 use Rattle.octets.proofs.Numbers.{are-digits-room}
 use Rattle.validation_dates.proofs.Dates.{time-no-digits, time-no-hour, time-no-minute, time-second}
 use borrow.Author.Needs.{needs}

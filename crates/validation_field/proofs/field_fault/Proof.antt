@@ -1,3 +1,4 @@
+-- One law for each end, in Checks.
 use Rattle.validation_field.proofs.Checks.{field-unknown, field-broken, field-length, field-value}
 use Rattle.field_table.specs.House.{house}
 use borrow.Author.Needs.{needs}

@@ -1,3 +1,4 @@
+-- One law for each end, in Checks.
 use Rattle.validation_field.proofs.Checks.{amount-four, amount-other}
 use borrow.Author.Needs.{needs}
 use Rattle.validation_field.proofs.is_amount_field.Statement.{statement}

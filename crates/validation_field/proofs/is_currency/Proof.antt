@@ -1,3 +1,4 @@
+-- It passes on what it called.
 use borrow.Author.Needs.{needs}
 use Rattle.validation_field.proofs.is_currency.Statement.{statement}
 use Rattle.validation_field.proofs.is_currency.Tie as tie

@@ -1,3 +1,4 @@
+-- One law for each end, in Checks.
 use Rattle.validation_field.proofs.Checks.{value-pan, value-free, value-zero, value-some}
 use borrow.Author.Needs.{needs}
 use Rattle.validation_field.proofs.value_fault.Statement.{statement}

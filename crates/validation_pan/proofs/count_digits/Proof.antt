@@ -1,3 +1,4 @@
+-- Those counted so far and those in the rest are all (Digits).
 use Prim.Native.Nat.{_+_, _-_, _≤_}
 use mathlib.Core.Path.{_≡_}
 use lib.ListN.{length, drop}

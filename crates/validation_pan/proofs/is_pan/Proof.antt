@@ -1,3 +1,4 @@
+-- One law for each end, in Pan.
 use Rattle.validation_pan.proofs.Pan.{too-few, too-many, enough}
 use borrow.Author.Needs.{needs}
 use native.Mathlib.Omega.{arith}

@@ -1,3 +1,4 @@
+-- The sum of the digits from the right so far, modulo 10 (Digits).
 use Rattle.validation_pan.proofs.Digits.{digit-least, Weighing, weighing-first, weighing-digit, weighing-other, weighing-done}
 use borrow.Author.Needs.{needs}
 use Rattle.validation_pan.proofs.luhn_remainder.Statement.{statement}

@@ -1,3 +1,4 @@
+-- One law for each end, in Pan.
 use Rattle.validation_pan.proofs.Pan.{pan-good, pan-bad}
 use borrow.Author.Needs.{needs}
 use Rattle.validation_pan.proofs.pan_fault.Statement.{statement}

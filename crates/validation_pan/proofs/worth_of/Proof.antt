@@ -1,3 +1,4 @@
+-- One law for each end, in Digits.
 use Rattle.validation_pan.proofs.Digits.{worth-single, worth-twice, worth-less}
 use borrow.Author.Needs.{needs}
 use Rattle.validation_pan.proofs.worth_of.Statement.{statement}

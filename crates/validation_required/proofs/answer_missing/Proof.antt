@@ -1,3 +1,4 @@
+-- One law for each end, in Required.
 use Rattle.validation_required.proofs.Required.{missing-none, missing-one}
 use borrow.Author.Needs.{needs}
 use Rattle.validation_required.proofs.answer_missing.Statement.{statement}

@@ -1,3 +1,4 @@
+-- One law for each end, in Required.
 use Rattle.message_walk.proofs.Answered.{any-head}
 use Rattle.validation_required.proofs.Required.{required-malformed, required-walked}
 use Rattle.field_table.specs.House.{house}

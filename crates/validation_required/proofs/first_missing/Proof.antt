@@ -1,3 +1,4 @@
+-- One law for each end, in Required.
 use Rattle.validation_required.proofs.Required.{no-3, no-11, no-12, no-13, behind-13}
 use borrow.Author.Needs.{needs}
 use Rattle.validation_required.proofs.first_missing.Statement.{statement}

@@ -1,3 +1,4 @@
+-- One law for each end, in Required.
 use Rattle.validation_required.proofs.Required.{no-card, no-2, no-4, behind-4}
 use borrow.Author.Needs.{needs}
 use Rattle.validation_required.proofs.missing_behind.Statement.{statement}

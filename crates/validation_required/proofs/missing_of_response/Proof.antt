@@ -1,3 +1,4 @@
+-- One law for each end, in Required.
 use Rattle.validation_required.proofs.Required.{no-response, no-39, all-there}
 use borrow.Author.Needs.{needs}
 use Rattle.validation_required.proofs.missing_of_response.Statement.{statement}
