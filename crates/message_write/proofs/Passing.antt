@@ -11,7 +11,7 @@ use lib.Seq.{length-take-le}
 use borrow.Author.Tests.{ltb-true}
 use borrow.Rule.Slice.PartMut.{midOf, putMid}
 use Rattle.octets.specs.Lists.{both, all, lay}
-use Rattle.octets.proofs.Cases.{by-bool, both-left, both-right}
+use Rattle.octets.proofs.Cases.{false-true, by-bool, both-left, both-right}
 use Rattle.octets.proofs.Parts.{Written, written-none, written-more, written-end, written-room}
 use Rattle.field_table.specs.Table.{Table}
 use Rattle.field_write.specs.Fields.{isShort, missing, fieldBytes, fieldInto, writtenSize, cleanFault, longest}
@@ -32,7 +32,9 @@ use Rattle.message_walk.specs.Answers.{testOf}
 use Rattle.message_walk.proofs.Steps.{by-judged, Good, passing, passed-bad, passed-end, passed-more}
 use Rattle.message_walk.proofs.Ends.{Going, going-first, going-next, note-here, passed-here}
 use Rattle.message_walk.proofs.Folds.{none-refused, none-end, one-more, AllGood, all-good}
-use Rattle.message_write.specs.Written.{numbersOf, bodyOf, shortIn}
+use Rattle.message_write.specs.declared.Choice.{Choice}
+use Rattle.message_write.specs.declared.Choice.the-variants.{Named, Short}
+use Rattle.message_write.specs.Written.{numbersOf, bodyOf, shortIn, isChosen, chosenIn}
 
 -- the numbers of entries that pass are fields
 allowed-field : (m last f : ℕ) → numberAllowed m last f ≡ true → isField f ≡ true
@@ -57,11 +59,34 @@ pub entries-good : (p : Test) (v n : List ℕ) → AllGood p v (countIn n) (entr
 unfolding entriesIn
 entries-good p v n = all-good p v (countIn n) (length n) 0 (drop headSize n)
 
-pub fields-set : (v n : List ℕ) → setFrom noFields (numbersOf (entriesIn any v n)) ≡ setOf (numbersOf (entriesIn any v n))
-fields-set v n = set-is (numbersOf (entriesIn any v n)) (numbers-are any v (countIn n) (entriesIn any v n) (entries-good any v n))
+-- the same of those that are chosen, and so they make a set
+chosen-are : (t : Table) (k : Choice) (es : List Entry) → all isField (numbersOf es) ≡ true → all isField (chosenIn t k es) ≡ true
+unfolding chosenIn
+chosen-are t Named es a = a
+chosen-are t Short es a = short-are t es a
 
-pub short-set : (t : Table) (v n : List ℕ) → setFrom noFields (shortIn t (entriesIn any v n)) ≡ setOf (shortIn t (entriesIn any v n))
-short-set t v n = set-is (shortIn t (entriesIn any v n)) (short-are t (entriesIn any v n) (numbers-are any v (countIn n) (entriesIn any v n) (entries-good any v n)))
+chosen-set : (t : Table) (k : Choice) (v n : List ℕ) → setFrom noFields (chosenIn t k (entriesIn any v n)) ≡ setOf (chosenIn t k (entriesIn any v n))
+chosen-set t k v n = set-is (chosenIn t k (entriesIn any v n)) (chosen-are t k (entriesIn any v n) (numbers-are any v (countIn n) (entriesIn any v n) (entries-good any v n)))
+
+-- an entry that is chosen, one that is not, and none
+chosen-one : (t : Table) (k : Choice) (f a z : ℕ) (es : List Entry) → isChosen t k f z ≡ true → chosenIn t k (entry f a z ∷ es) ≡ f ∷ chosenIn t k es
+unfolding chosenIn isChosen numbersOf shortIn
+chosen-one t Named f a z es y = refl
+chosen-one t Short f a z es y = rw y
+
+chosen-not : (t : Table) (k : Choice) (f a z : ℕ) (es : List Entry) → isChosen t k f z ≡ false → chosenIn t k (entry f a z ∷ es) ≡ chosenIn t k es
+unfolding chosenIn isChosen numbersOf shortIn
+chosen-not t Named f a z es y = absurd (false-true (sym y))
+chosen-not t Short f a z es y = rw y
+
+chosen-none : (t : Table) (k : Choice) → chosenIn t k [] ≡ []
+unfolding chosenIn numbersOf shortIn
+chosen-none t Named = refl
+chosen-none t Short = refl
+
+-- `is_chosen`: what holds of the choice that an arm names holds of the choice that was given
+pub choice-is : (t : Table) (k j : Choice) (f z : ℕ) (flag : Bool) → k ≡ j → flag ≡ isChosen t j f z → flag ≡ isChosen t k f z
+choice-is t k j f z flag e h = h ∙ ap (λ (x : Choice). isChosen t x f z) (sym e)
 
 -- a content that is not too long takes a bounded room
 written-most : (t : Table) (f : ℕ) (s : List ℕ) → Small t → cleanFault t f s ≡ 0 → writtenSize t f (length s) ≤ 2001
@@ -110,42 +135,25 @@ module _ {p : Test} {v n : List ℕ} {P : List Entry → Type 0} {at last : ℕ}
     pub turn-next : {Q : List Entry → Type 0} → Q (passed p v (countIn n) (k - 1) f (drop (at + fieldNoteSize) n)) → Loop p v n Q (at + fieldNoteSize) f
     turn-next q = record { fuel = k - 1; going = going-next p v n (countIn n) at last k (c .loop .going) o (c .judging) f a z is; holds = q }
 
--- `fields_in`: the fields put into the set s and those still to come make the whole set.
-pub record Naming (v n s : List ℕ) (es : List Entry) : Type 0 where
-  pub whole : setFrom noFields (numbersOf (entriesIn any v n)) ≡ setFrom s (numbersOf es)
+-- `fields_in`: the chosen fields put into the set s and those still to come make the whole set.
+pub record Choosing (t : Table) (k : Choice) (v n s : List ℕ) (es : List Entry) : Type 0 where
+  pub whole : setFrom noFields (chosenIn t k (entriesIn any v n)) ≡ setFrom s (chosenIn t k es)
 
-module _ {v n s : List ℕ} where
-  pub naming-first : s ≡ noFields → Naming v n s (entriesIn any v n)
-  naming-first e = record { whole = rw e }
+module _ {t : Table} {k : Choice} {v n s : List ℕ} where
+  pub choosing-first : s ≡ noFields → Choosing t k v n s (entriesIn any v n)
+  choosing-first e = record { whole = rw e }
 
-  pub naming-with : {f a z : ℕ} {s′ : List ℕ} {es : List Entry} → Naming v n s (entry f a z ∷ es) → s′ ≡ withField s f → Naming v n s′ es
-  unfolding setFrom numbersOf
-  naming-with c e = record { whole = c .whole ∙ rw e }
+  module _ {f a z : ℕ} {es : List Entry} {flag : Bool} (c : Choosing t k v n s (entry f a z ∷ es)) (tested : flag ≡ isChosen t k f z) where
+    pub choosing-one : {s′ : List ℕ} → flag ≡ true → s′ ≡ withField s f → Choosing t k v n s′ es
+    unfolding setFrom
+    choosing-one y e = record { whole = c .whole ∙ ap (setFrom s) (chosen-one t k f a z es (sym tested ∙ y)) ∙ rw e }
 
-  pub naming-done : Naming v n s [] → s ≡ setOf (numbersOf (entriesIn any v n))
-  unfolding setFrom numbersOf
-  naming-done c = sym (sym (fields-set v n) ∙ c .whole)
+    pub choosing-not : flag ≡ false → Choosing t k v n s es
+    choosing-not y = record { whole = c .whole ∙ ap (setFrom s) (chosen-not t k f a z es (sym tested ∙ y)) }
 
--- `padded_in`: the same of the fields that are padded.
-pub record Padding (t : Table) (v n s : List ℕ) (es : List Entry) : Type 0 where
-  pub whole : setFrom noFields (shortIn t (entriesIn any v n)) ≡ setFrom s (shortIn t es)
-
-module _ {t : Table} {v n s : List ℕ} where
-  pub padding-first : s ≡ noFields → Padding t v n s (entriesIn any v n)
-  padding-first e = record { whole = rw e }
-
-  module _ {f a z : ℕ} {es : List Entry} {flag : Bool} (c : Padding t v n s (entry f a z ∷ es)) (tested : flag ≡ isShort t f z) where
-    pub padding-short : {s′ : List ℕ} → flag ≡ true → s′ ≡ withField s f → Padding t v n s′ es
-    unfolding setFrom shortIn
-    padding-short y e = record { whole = c .whole ∙ rw (← tested, y, e) }
-
-    pub padding-long : flag ≡ false → Padding t v n s es
-    unfolding setFrom shortIn
-    padding-long y = record { whole = c .whole ∙ rw (← tested, y) }
-
-  pub padding-done : Padding t v n s [] → s ≡ setOf (shortIn t (entriesIn any v n))
-  unfolding setFrom shortIn
-  padding-done c = sym (sym (short-set t v n) ∙ c .whole)
+  pub choosing-done : Choosing t k v n s [] → s ≡ setOf (chosenIn t k (entriesIn any v n))
+  unfolding setFrom
+  choosing-done c = sym (sym (chosen-set t k v n) ∙ c .whole ∙ ap (setFrom s) (chosen-none t k))
 
 -- A field that passes the cleaning writer's test: its size as the code has it, and bounds.
 module _ {t : Table} (small : Small t) {v : List ℕ} {m last f a z : ℕ} (g : Good (testOf t Clean) v m last f a z) where

@@ -5,6 +5,8 @@
 --   bitmapsOf m es            == the m bitmaps for those fields
 --   messageOf t v mti m es    == the message: MTI, bitmaps, fields
 --   shortIn t es              == the numbers of the fixed fields among es whose contents are too short
+--   isChosen t k f z          == field f with a content of z bytes is one of the choice k
+--   chosenIn t k es           == the numbers of the entries es that are
 --   bytesBy p t v n           == the message that the notes n and the values v stand for, where the test p is asked of contents
 --   answered, laidOut         == the answer and the output of a writer whose walk ends at the end note `at` that says u
 --   answerOn, outputOn        == the same of one whose walk ended as said, with a refusal or at the end note
@@ -15,7 +17,7 @@
 --
 -- Assumes nothing: these are definitions.
 use Prim.Native.Nat.{ℕ, _*_}
-use mathlib.Core.Bool.{cond}
+use mathlib.Core.Bool.{Bool, true, cond}
 use mathlib.Core.List.{List, [], _∷_, _++_}
 use lib.Dec.{eqb, leb}
 use lib.ListN.{length, take}
@@ -28,6 +30,8 @@ use Rattle.field_table.specs.Table.{Table}
 use Rattle.field_write.specs.Fields.{isShort, fieldBytes}
 use Rattle.bitmap.specs.Bitmaps.{noFields, setOf, mapsFor}
 use Rattle.message_language.specs.Language.{Entry}
+use Rattle.message_write.specs.declared.Choice.{Choice}
+use Rattle.message_write.specs.declared.Choice.the-variants.{Named, Short}
 use Rattle.message_walk.specs.Walk.{Test, countIn, mtiIn, contentOf, Ending, bad, ends, walked, entriesIn}
 
 unfoldable pub numbersOf : List Entry → List ℕ
@@ -48,6 +52,14 @@ messageOf t v mti m es = mti ++ (bitmapsOf m es ++ bodyOf t v es)
 unfoldable pub shortIn : Table → List Entry → List ℕ
 shortIn t [] = []
 shortIn t (e ∷ es) = cond (isShort t (e .number) (e .size)) (e .number ∷ shortIn t es) (shortIn t es)
+
+unfoldable pub isChosen : Table → Choice → ℕ → ℕ → Bool
+isChosen t Named f z = true
+isChosen t Short f z = isShort t f z
+
+unfoldable pub chosenIn : Table → Choice → List Entry → List ℕ
+chosenIn t Named es = numbersOf es
+chosenIn t Short es = shortIn t es
 
 unfoldable pub bytesBy : Test → Table → List ℕ → List ℕ → List ℕ
 bytesBy p t v n = messageOf t v (mtiIn n) (countIn n) (entriesIn p v n)

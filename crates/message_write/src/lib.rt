@@ -15,12 +15,18 @@ ghost use Rattle.field_table.specs.House.{house};
 ghost use Rattle.bitmap.specs.Bitmaps.{setOf};
 ghost use Rattle.message_walk.specs.Walk.{any, headNumber, countIn, mtiIn, entriesIn};
 ghost use Rattle.message_walk.specs.Answers.{testOf};
-ghost use Rattle.message_write.specs.Written.{numbersOf, bodyOf, messageOf, shortIn, answered, laidOut, answerBy, outputBy, paddedBy};
+ghost use Rattle.message_write.specs.Written.{bodyOf, messageOf, isChosen, chosenIn, answered, laidOut, answerBy, outputBy, paddedBy};
 
 // What the cleaning writer answers: as the exact one, and the set of the fields that it padded, empty where it refuses.
 pub struct Cleaned {
     pub answer: Output,
     pub padded: FieldSet,
+}
+
+// Which fields a set holds: all that the notes name, or those whose contents are padded when they are written.
+pub enum Choice {
+    Named,
+    Short,
 }
 
 // Writes the message that notes and values stand for, to the byte. A refusal leaves out as it was.
@@ -45,7 +51,7 @@ pub fn write_clean(values: &[u8], notes: &[u8], out: &mut [u8]) -> Cleaned
         },
         Output::Written(_) => Cleaned {
             answer,
-            padded: padded_in(values, notes),
+            padded: fields_in(values, notes, Choice::Short),
         },
     }
 }
@@ -97,7 +103,7 @@ fn write_message(values: &[u8], notes: &[u8], out: &mut [u8])
     ensures { λ _. ⌜ now (out .exit) ≡ lay (messageOf house (now (values .entry)) (mtiIn (now (notes .entry))) (countIn (now (notes .entry))) (entriesIn (testOf house Rule.Clean) (now (values .entry)) (now (notes .entry)))) (now (out .entry)) ⌝ }
 {
     let count = message_walk::count_in(notes);
-    let maps = Bitmaps::of(count, fields_in(values, notes)).to_bytes();
+    let maps = Bitmaps::of(count, fields_in(values, notes, Choice::Named)).to_bytes();
     let size = 8 * count;
     let start = 4 + size;
     octets::put(&notes[1..5], out);
@@ -105,44 +111,10 @@ fn write_message(values: &[u8], notes: &[u8], out: &mut [u8])
     write_body(values, notes, &mut out[start..]);
 }
 
-// The set of the fields that the notes name.
-fn fields_in(values: &[u8], notes: &[u8]) -> FieldSet
+// The set of those fields that the notes name and that are chosen.
+fn fields_in(values: &[u8], notes: &[u8], choice: Choice) -> FieldSet
     requires { ⌜ 6 ≤ length (now notes) ⌝ }
-    ensures { λ r. ⌜ r .bits ≡ setOf (numbersOf (entriesIn any (now (values .entry)) (now (notes .entry)))) ⌝ }
-{
-    let count = message_walk::count_in(notes);
-    let mut fields = FieldSet::none();
-    let mut last: usize = 0;
-    let mut at = message_notes::HEAD_SIZE;
-    while at <= notes.len() {
-        match message_walk::judge(values, &notes[at..], count, last, Rule::Any) {
-            Judged::Refused {
-                number: _,
-                field: _,
-            } => {
-                return fields;
-            }
-            Judged::End(_) => {
-                return fields;
-            }
-            Judged::Passed {
-                number,
-                offset: _,
-                length: _,
-            } => {
-                fields = fields.with(number);
-                last = number;
-                at += message_notes::FIELD_NOTE_SIZE;
-            }
-        }
-    }
-    fields
-}
-
-// The set of the fields whose contents are padded when they are written.
-fn padded_in(values: &[u8], notes: &[u8]) -> FieldSet
-    requires { ⌜ 6 ≤ length (now notes) ⌝ }
-    ensures { λ r. ⌜ r .bits ≡ setOf (shortIn house (entriesIn any (now (values .entry)) (now (notes .entry)))) ⌝ }
+    ensures { λ r. ⌜ r .bits ≡ setOf (chosenIn house choice (entriesIn any (now (values .entry)) (now (notes .entry)))) ⌝ }
 {
     let count = message_walk::count_in(notes);
     let mut fields = FieldSet::none();
@@ -164,7 +136,7 @@ fn padded_in(values: &[u8], notes: &[u8]) -> FieldSet
                 offset: _,
                 length,
             } => {
-                if field_write::is_short(number, length) {
+                if is_chosen(choice, number, length) {
                     fields = fields.with(number);
                     last = number;
                     at += message_notes::FIELD_NOTE_SIZE;
@@ -176,6 +148,16 @@ fn padded_in(values: &[u8], notes: &[u8]) -> FieldSet
         }
     }
     fields
+}
+
+// Whether field number is chosen, with a content of that length.
+fn is_chosen(choice: Choice, number: usize, length: usize) -> bool
+    ensures { λ r. ⌜ r ≡ isChosen house choice number length ⌝ }
+{
+    match choice {
+        Choice::Named => true,
+        Choice::Short => field_write::is_short(number, length),
+    }
 }
 
 // How many bytes the fields take, padded where they are short.

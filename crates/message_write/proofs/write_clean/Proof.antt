@@ -3,6 +3,7 @@ use mathlib.Core.Path.{sym, _∙_}
 use Prim.Native.Nat.{_-_}
 use Rattle.field_table.specs.House.{house}
 use Rattle.message_walk.proofs.Heads.{ended-head, good-head}
+use Rattle.message_write.specs.Written.{chosenIn}
 use Rattle.message_write.proofs.Answering.{written-ended, padded-refused, padded-written}
 use borrow.Author.Needs.{needs}
 use Rattle.message_write.proofs.write_clean.Statement.{statement}
@@ -20,8 +21,8 @@ none-requires c κs = search needs
 enum-told-2 : tie.Need-enum-told-2
 enum-told-2 c = search needs
 
-padded-in-requires : tie.Need-padded-in-requires
-padded-in-requires c κs =
+fields-in-requires : tie.Need-fields-in-requires
+fields-in-requires c κs =
     let b = c .before .before .before .before .write-by .ensures .0 in
     let e = written-ended _ house _ _ _ _ (sym b ∙ c .enum-told2 .given .1) in
     good-head _ (ended-head _ _ _ _ _ (e .1 .1)) .whole
@@ -38,9 +39,10 @@ same-length-2 : tie.Need-same-length-2
 same-length-2 c = search needs
 
 returns-2 : tie.Need-returns-2
+unfolding chosenIn
 returns-2 c =
     let b = c .before .before .before .before .before .write-by .ensures in
-    (b .0, (padded-written _ house _ _ _ _ _ (sym (b .0) ∙ c .before .enum-told2 .given .1) (c .padded-in .ensures), b .1))
+    (b .0, (padded-written _ house _ _ _ _ _ (sym (b .0) ∙ c .before .enum-told2 .given .1) (c .fields-in .ensures), b .1))
 
 pub write-clean-spec : {M : Type 1} → statement M
 write-clean-spec =
@@ -50,7 +52,7 @@ write-clean-spec =
     enum-told
     none-requires
     enum-told-2
-    padded-in-requires
+    fields-in-requires
     same-length
     returns
     same-length-2

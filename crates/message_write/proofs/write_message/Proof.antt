@@ -7,7 +7,7 @@ use Rattle.field_table.specs.House.{house}
 use Rattle.message_walk.specs.declared.Rule.the-variants.{Clean}
 use Rattle.message_walk.specs.Walk.{entriesIn}
 use Rattle.message_walk.specs.Answers.{testOf}
-use Rattle.message_write.specs.Written.{bodyOf}
+use Rattle.message_write.specs.Written.{chosenIn, bodyOf}
 use Rattle.message_walk.proofs.Heads.{good-head}
 use Rattle.message_write.proofs.Answering.{Asked, made-long, asked-room, message-written}
 use borrow.Author.Needs.{needs}
@@ -111,6 +111,7 @@ same-length : tie.Need-same-length
 same-length c = search needs
 
 returns : tie.Need-returns
+unfolding chosenIn
 returns c =
     let h = c .before .before .before .before in
     let k = begun (headed h) in
