@@ -135,6 +135,29 @@ module _ {p : Test} {v n : List ℕ} {P : List Entry → Type 0} {at last : ℕ}
     pub turn-next : {Q : List Entry → Type 0} → Q (passed p v (countIn n) (k - 1) f (drop (at + fieldNoteSize) n)) → Loop p v n Q (at + fieldNoteSize) f
     turn-next q = record { fuel = k - 1; going = going-next p v n (countIn n) at last k (c .loop .going) o (c .judging) f a z is; holds = q }
 
+-- Where every content is one that the cleaning writer takes, the loops that measure and write ask nothing of it again: each entry still to
+-- come is known to be good, and P holds of them.
+pub record Cleared (t : Table) (v n : List ℕ) (P : List Entry → Type 0) (es : List Entry) : Type 0 where
+  pub good : AllGood (testOf t Clean) v (countIn n) es
+  pub rest : P es
+
+module _ {t : Table} {v n : List ℕ} {P : List Entry → Type 0} where
+  pub cleared-first : entriesIn any v n ≡ entriesIn (testOf t Clean) v n → P (entriesIn (testOf t Clean) v n) → Cleared t v n P (entriesIn any v n)
+  cleared-first e x =
+      record {
+        good = subst (AllGood (testOf t Clean) v (countIn n)) (sym e) (entries-good (testOf t Clean) v n);
+        rest = subst P (sym e) x;
+      }
+
+  module _ {f a z : ℕ} {es : List Entry} (c : Cleared t v n P (entry f a z ∷ es)) where
+    pub cleared-good : (last : ℕ) × Good (testOf t Clean) v (countIn n) last f a z
+    unfolding AllGood
+    cleared-good = c .good .0
+
+    pub cleared-next : {Q : List Entry → Type 0} → Q es → Cleared t v n Q es
+    unfolding AllGood
+    cleared-next q = record { good = c .good .1; rest = q }
+
 -- `fields_in`: the chosen fields put into the set s and those still to come make the whole set.
 pub record Choosing (t : Table) (k : Choice) (v n s : List ℕ) (es : List Entry) : Type 0 where
   pub whole : setFrom noFields (chosenIn t k (entriesIn any v n)) ≡ setFrom s (chosenIn t k es)

@@ -160,9 +160,10 @@ fn is_chosen(choice: Choice, number: usize, length: usize) -> bool
     }
 }
 
-// How many bytes the fields take, padded where they are short.
+// How many bytes the fields take, padded where they are short. Their contents have passed and are not looked at again.
 fn measure(values: &[u8], notes: &[u8]) -> usize
     requires { ⌜ 6 ≤ length (now notes) ⌝ }
+    requires { ⌜ entriesIn any (now values) (now notes) ≡ entriesIn (testOf house Rule.Clean) (now values) (now notes) ⌝ }
     ensures size { λ r. ⌜ r ≡ length (bodyOf house (now (values .entry)) (entriesIn (testOf house Rule.Clean) (now (values .entry)) (now (notes .entry)))) ⌝ }
     ensures small { λ r. ⌜ r ≤ 400000 ⌝ }
 {
@@ -171,7 +172,7 @@ fn measure(values: &[u8], notes: &[u8]) -> usize
     let mut last: usize = 0;
     let mut at = message_notes::HEAD_SIZE;
     while at <= notes.len() {
-        match message_walk::judge(values, &notes[at..], count, last, Rule::Clean) {
+        match message_walk::judge(values, &notes[at..], count, last, Rule::Any) {
             Judged::Refused {
                 number: _,
                 field: _,
@@ -195,9 +196,10 @@ fn measure(values: &[u8], notes: &[u8]) -> usize
     total
 }
 
-// Writes the fields one behind the other, each into the rest of the output.
+// Writes the fields one behind the other, each into the rest of the output. Their contents have passed and are not judged again.
 fn write_body(values: &[u8], notes: &[u8], out: &mut [u8])
     requires { ⌜ 6 ≤ length (now notes) ⌝ }
+    requires { ⌜ entriesIn any (now values) (now notes) ≡ entriesIn (testOf house Rule.Clean) (now values) (now notes) ⌝ }
     requires { ⌜ length (bodyOf house (now values) (entriesIn (testOf house Rule.Clean) (now values) (now notes))) ≤ length (now out) ⌝ }
     ensures { λ _. ⌜ now (out .exit) ≡ lay (bodyOf house (now (values .entry)) (entriesIn (testOf house Rule.Clean) (now (values .entry)) (now (notes .entry)))) (now (out .entry)) ⌝ }
 {
@@ -206,7 +208,7 @@ fn write_body(values: &[u8], notes: &[u8], out: &mut [u8])
     let mut last: usize = 0;
     let mut at = message_notes::HEAD_SIZE;
     while at <= notes.len() {
-        match message_walk::judge(values, &notes[at..], count, last, Rule::Clean) {
+        match message_walk::judge(values, &notes[at..], count, last, Rule::Any) {
             Judged::Refused {
                 number: _,
                 field: _,

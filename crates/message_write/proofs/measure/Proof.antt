@@ -1,19 +1,18 @@
--- What is measured so far and what is still to come make the whole (Passing).
+-- What is measured so far and what is still to come make the whole, and every content to come is one that may be written (Passing).
 use Prim.Native.Nat.{_+_, _-_}
 use lib.ListN.{length}
 use Rattle.field_table.specs.House.{house}
 use Rattle.field_table.proofs.Rows.{house-small}
-use Rattle.message_walk.specs.declared.Rule.the-variants.{Clean}
-use Rattle.message_walk.specs.Answers.{testOf}
-use Rattle.message_walk.proofs.Ends.{counted}
-use Rattle.message_write.proofs.Passing.{Loop, loop-first, Turn, turn-refused, turn-end, turn-room, turn-good, turn-here, turn-next, Measuring, measuring-first, measuring-done, measuring-fits, measuring-more}
+use Rattle.message_walk.specs.Walk.{any}
+use Rattle.message_walk.proofs.Ends.{judged-any}
+use Rattle.message_write.proofs.Passing.{Loop, loop-first, Turn, turn-refused, turn-end, turn-room, turn-here, turn-next, Cleared, cleared-first, cleared-good, cleared-next, Measuring, measuring-first, measuring-done, measuring-fits, measuring-more}
 use borrow.Author.Needs.{needs}
 use native.Mathlib.Omega.{arith}
 use Rattle.message_write.proofs.measure.Statement.{statement}
 use Rattle.message_write.proofs.measure.Tie as tie
 
 abbrev Inv-loop : tie.InvT-loop
-Inv-loop values notes count total₀ last₀ at₀ total last at = Loop (testOf house Clean) values notes (Measuring house values notes total) at last
+Inv-loop values notes count total₀ last₀ at₀ total last at = Loop any values notes (Cleared house values notes (Measuring house values notes total)) at last
 
 abbrev μ-loop : tie.MeasureT-loop
 μ-loop values notes count total₀ last₀ at₀ total last at = length notes + 1 - at
@@ -27,18 +26,18 @@ here c = c .before .before .before
 
 turn-at :
     (c : tie.After-judge Inv-loop μ-loop) →
-    Turn (testOf house Clean) (start (here c) .args .values .now) (start (here c) .args .notes .now)
-    (Measuring house (start (here c) .args .values .now) (start (here c) .args .notes .now) (here c .loop .total))
+    Turn any (start (here c) .args .values .now) (start (here c) .args .notes .now)
+    (Cleared house (start (here c) .args .values .now) (start (here c) .args .notes .now) (Measuring house (start (here c) .args .values .now) (start (here c) .args .notes .now) (here c .loop .total)))
     (here c .loop .at)
     (here c .loop .last)
     (c .judge .result)
-turn-at c = record { loop = here c .loop .inv; judging = counted _ _ _ _ _ _ _ (c .judge .ensures) (here c .before .count-in .ensures) }
+turn-at c = record { loop = here c .loop .inv; judging = judged-any house _ _ _ _ _ _ (c .judge .ensures) (here c .before .count-in .ensures) }
 
 count-in-requires : tie.Need-count-in-requires Inv-loop μ-loop
 count-in-requires c κs = search needs
 
 loop-holds : tie.Need-loop-holds Inv-loop μ-loop
-loop-holds c = loop-first (c .before .before .before .pre) measuring-first
+loop-holds c = loop-first (c .before .before .before .pre .0) (cleared-first (c .before .before .before .pre .1) measuring-first)
 
 sub-judge : tie.Need-sub-judge Inv-loop μ-loop
 sub-judge c = search needs
@@ -56,13 +55,13 @@ enum-told : tie.Need-enum-told Inv-loop μ-loop
 enum-told c = search needs
 
 returns : tie.Need-returns Inv-loop μ-loop
-returns c = measuring-done house-small (turn-refused (turn-at (c .before .before)) (c .enum-told .given .1))
+returns c = measuring-done house-small (turn-refused (turn-at (c .before .before)) (c .enum-told .given .1) .rest)
 
 enum-told-2 : tie.Need-enum-told-2 Inv-loop μ-loop
 enum-told-2 c = search needs
 
 returns-2 : tie.Need-returns-2 Inv-loop μ-loop
-returns-2 c = measuring-done house-small (turn-end (turn-at (c .before .before)) (c .enum-told2 .given .1))
+returns-2 c = measuring-done house-small (turn-end (turn-at (c .before .before)) (c .enum-told2 .given .1) .rest)
 
 enum-known-number : tie.Need-enum-known-number Inv-loop μ-loop
 enum-known-number c = search needs
@@ -74,7 +73,8 @@ add-total : tie.Need-add-total Inv-loop μ-loop
 add-total c =
     let k = turn-at (c .before .before .before .before) in
     let is = c .before .before .number .given .1 in
-    omega (arith, measuring-fits house-small (turn-here k is) (turn-good k is) (c .written-size .ensures))
+    let h = turn-here k is in
+    omega (arith, measuring-fits house-small (h .rest) (cleared-good h .1) (c .written-size .ensures))
 
 add-at : tie.Need-add-at Inv-loop μ-loop
 add-at c = omega (arith, turn-room (turn-at (c .before .before .before .before)) (c .before .before .number .given .1))
@@ -86,7 +86,8 @@ loop-again : tie.Need-loop-again Inv-loop μ-loop
 loop-again c =
     let k = turn-at (c .before .before .before .before) in
     let is = c .before .before .number .given .1 in
-    turn-next k is (measuring-more house-small (turn-here k is) (turn-good k is) (c .written-size .ensures))
+    let h = turn-here k is in
+    turn-next k is (cleared-next h (measuring-more house-small (h .rest) (cleared-good h .1) (c .written-size .ensures)))
 
 returns-3 : tie.Need-returns-3 Inv-loop μ-loop
 returns-3 c = absurd (omega (arith, c .loop-test .left, c .before .loop .inv .going .inside))

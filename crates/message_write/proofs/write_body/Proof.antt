@@ -1,19 +1,18 @@
--- What is written so far and what is still to come make the whole (Passing).
+-- What is written so far and what is still to come make the whole, and every content to come is one that may be written (Passing).
 use Prim.Native.Nat.{_+_, _-_, _≤_}
 use lib.ListN.{length}
 use Rattle.field_table.specs.House.{house}
 use Rattle.field_table.proofs.Rows.{house-small}
-use Rattle.message_walk.specs.declared.Rule.the-variants.{Clean}
-use Rattle.message_walk.specs.Answers.{testOf}
-use Rattle.message_walk.proofs.Ends.{counted}
-use Rattle.message_write.proofs.Passing.{Loop, loop-first, Turn, turn-refused, turn-end, turn-room, turn-good, turn-here, turn-next, Writing, writing-first, writing-done, writing-fits, writing-more}
+use Rattle.message_walk.specs.Walk.{any}
+use Rattle.message_walk.proofs.Ends.{judged-any}
+use Rattle.message_write.proofs.Passing.{Loop, loop-first, Turn, turn-refused, turn-end, turn-room, turn-good, turn-here, turn-next, Cleared, cleared-first, cleared-good, cleared-next, Writing, writing-first, writing-done, writing-fits, writing-more}
 use borrow.Author.Needs.{needs}
 use native.Mathlib.Omega.{arith}
 use Rattle.message_write.proofs.write_body.Statement.{statement}
 use Rattle.message_write.proofs.write_body.Tie as tie
 
 abbrev Inv-loop : tie.InvT-loop
-Inv-loop values notes out₀ count written₀ last₀ at₀ out written last at = Loop (testOf house Clean) values notes (Writing house values notes out₀ out written) at last
+Inv-loop values notes out₀ count written₀ last₀ at₀ out written last at = Loop any values notes (Cleared house values notes (Writing house values notes out₀ out written)) at last
 
 abbrev μ-loop : tie.MeasureT-loop
 μ-loop values notes out₀ count written₀ last₀ at₀ out written last at = length notes + 1 - at
@@ -27,12 +26,13 @@ here c = c .before .before .before
 
 turn-at :
     (c : tie.After-judge Inv-loop μ-loop) →
-    Turn (testOf house Clean) (start (here c) .args .values .now) (start (here c) .args .notes .now)
-    (Writing house (start (here c) .args .values .now) (start (here c) .args .notes .now) (start (here c) .args .out .now) (here c .loop .out) (here c .loop .written))
+    Turn any (start (here c) .args .values .now) (start (here c) .args .notes .now)
+    (Cleared house (start (here c) .args .values .now) (start (here c) .args .notes .now)
+    (Writing house (start (here c) .args .values .now) (start (here c) .args .notes .now) (start (here c) .args .out .now) (here c .loop .out) (here c .loop .written)))
     (here c .loop .at)
     (here c .loop .last)
     (c .judge .result)
-turn-at c = record { loop = here c .loop .inv; judging = counted _ _ _ _ _ _ _ (c .judge .ensures) (here c .before .count-in .ensures) }
+turn-at c = record { loop = here c .loop .inv; judging = judged-any house _ _ _ _ _ _ (c .judge .ensures) (here c .before .count-in .ensures) }
 
 abbrev judged-in : tie.After-known-told Inv-loop μ-loop → tie.After-judge Inv-loop μ-loop
 judged-in c = c .before .before .before
@@ -41,13 +41,14 @@ fits : (c : tie.After-written-size Inv-loop μ-loop) → here (judged-in (c .bef
 fits c =
     let k = turn-at (judged-in (c .before)) in
     let is = c .before .before .number .given .1 in
-    writing-fits house-small (turn-here k is) (turn-good k is) (c .written-size .ensures) (start (here (judged-in (c .before))) .pre .1)
+    let h = turn-here k is in
+    writing-fits house-small (h .rest) (cleared-good h .1) (c .written-size .ensures) (start (here (judged-in (c .before))) .pre .1 .1)
 
 count-in-requires : tie.Need-count-in-requires Inv-loop μ-loop
 count-in-requires c κs = search needs
 
 loop-holds : tie.Need-loop-holds Inv-loop μ-loop
-loop-holds c = loop-first (c .before .before .before .before .pre .0) writing-first
+loop-holds c = loop-first (c .before .before .before .before .pre .0) (cleared-first (c .before .before .before .before .pre .1 .0) writing-first)
 
 sub-judge : tie.Need-sub-judge Inv-loop μ-loop
 sub-judge c = search needs
@@ -65,19 +66,19 @@ enum-told : tie.Need-enum-told Inv-loop μ-loop
 enum-told c = search needs
 
 same-length : tie.Need-same-length Inv-loop μ-loop
-same-length c = here (c .before .before) .loop .inv .holds .written .size
+same-length c = here (c .before .before) .loop .inv .holds .rest .written .size
 
 returns : tie.Need-returns Inv-loop μ-loop
-returns c = writing-done (turn-refused (turn-at (c .before .before)) (c .enum-told .given .1))
+returns c = writing-done (turn-refused (turn-at (c .before .before)) (c .enum-told .given .1) .rest)
 
 enum-told-2 : tie.Need-enum-told-2 Inv-loop μ-loop
 enum-told-2 c = search needs
 
 same-length-2 : tie.Need-same-length-2 Inv-loop μ-loop
-same-length-2 c = here (c .before .before) .loop .inv .holds .written .size
+same-length-2 c = here (c .before .before) .loop .inv .holds .rest .written .size
 
 returns-2 : tie.Need-returns-2 Inv-loop μ-loop
-returns-2 c = writing-done (turn-end (turn-at (c .before .before)) (c .enum-told2 .given .1))
+returns-2 c = writing-done (turn-end (turn-at (c .before .before)) (c .enum-told2 .given .1) .rest)
 
 enum-known-number : tie.Need-enum-known-number Inv-loop μ-loop
 enum-known-number c = search needs
@@ -127,10 +128,12 @@ loop-again c =
     let s = c .before .before .before .before .before in
     let k = turn-at (judged-in (s .before)) in
     let is = s .before .before .number .given .1 in
-    turn-next k is (writing-more house-small (turn-here k is) (turn-good k is) (s .written-size .ensures) (start (here (judged-in (s .before))) .pre .1) (c .before .before .put-field .ensures))
+    let h = turn-here k is in
+    turn-next k is
+    (cleared-next h (writing-more house-small (h .rest) (cleared-good h .1) (s .written-size .ensures) (start (here (judged-in (s .before))) .pre .1 .1) (c .before .before .put-field .ensures)))
 
 same-length-3 : tie.Need-same-length-3 Inv-loop μ-loop
-same-length-3 c = c .before .loop .inv .holds .written .size
+same-length-3 c = c .before .loop .inv .holds .rest .written .size
 
 returns-3 : tie.Need-returns-3 Inv-loop μ-loop
 returns-3 c = absurd (omega (arith, c .loop-test .left, c .before .loop .inv .going .inside))

@@ -42,7 +42,7 @@ add-length : tie.Need-add-length
 add-length c = omega (arith, three-at c)
 
 measure-requires : tie.Need-measure-requires
-measure-requires c κs = good-head _ (start c .pre .0) .whole
+measure-requires c κs = (good-head _ (start c .pre .0) .whole, start c .pre .1)
 
 add-length-2 : tie.Need-add-length-2
 add-length-2 c = omega (arith, three-at (c .before), c .measure .ensures .1)

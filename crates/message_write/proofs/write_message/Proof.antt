@@ -105,7 +105,7 @@ part-write-body-end c = search needs
 write-body-requires : tie.Need-write-body-requires
 write-body-requires c κs =
     let k = headed (c .before) in
-    (good-head _ (start (begun k) .pre .0) .whole, omega (arith, room-at (begun k), size-at k, c .before .before .out2 .given, c .write-body-arg .given .1))
+    (good-head _ (start (begun k) .pre .0) .whole, (start (begun k) .pre .1 .0, omega (arith, room-at (begun k), size-at k, c .before .before .out2 .given, c .write-body-arg .given .1)))
 
 same-length : tie.Need-same-length
 same-length c = search needs
