@@ -10,11 +10,12 @@ use Rattle.octets.specs.Lists.{either, all}
 use Rattle.octets.specs.Numbers.{isDigit, isAscii}
 use Rattle.octets.proofs.Cases.{by-bool, by-lt}
 use Rattle.refusal.specs.Numbers.{pastTheEnd, lengthNotDigits, lengthOverTable, textNotAscii}
-use Rattle.field_table.specs.Table.{isBinary}
+use Rattle.field_table.specs.Table.{Table, isBinary}
 use Rattle.field_table.specs.declared.Class.{Class}
+use Rattle.field_table.specs.declared.Class.the-variants.{B}
 use Rattle.field_read.specs.declared.FieldRead.{FieldRead}
 use Rattle.field_read.specs.declared.FieldRead.the-variants.{Content, Refused}
-use Rattle.field_read.specs.Items.{lengthOf, readSized, readItem}
+use Rattle.field_read.specs.Items.{lengthOf, readSized, readItem, readField, placeField}
 
 never : (o : FieldRead) (k a n : ℕ) → o ≡ Refused k → o ≡ Content a n → ⊥
 never o k a n p q = let z : _≡_ {A = ℕ} 0 1 = cc in omega arith
@@ -53,3 +54,19 @@ module _ (w m : ℕ) (c : Class) (s : List ℕ) (a n : ℕ) where
           let i : n ≡ k = cc in
           record { start = cc; whole = whole; digits = digits; is-n = i ∙ is; short = rw i short; room = rw i room; text = rw i text })
           (λ t. absurd (never _ textNotAscii a n (rw (le-ltb m k short, le-ltb (length s - w) k room, t)) e′))))
+
+-- where reading a field finds a content, so does placing it
+pub read-placed : (t : Table) (f : ℕ) (s : List ℕ) (a n : ℕ) → readField t f s ≡ Content a n → placeField t f s ≡ Content a n
+unfolding readField placeField
+read-placed t f s a n e =
+    let g = found (t .width f) (t .most f) (t .class f) s a n e in
+    reads (t .width f) (t .most f) B s a n
+    record {
+      start = g .start;
+      whole = g .whole;
+      digits = g .digits;
+      is-n = g .is-n;
+      short = g .short;
+      room = g .room;
+      text = refl;
+    }

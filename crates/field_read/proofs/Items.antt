@@ -14,9 +14,10 @@ use Rattle.octets.proofs.Numbers.{number-read}
 use Rattle.refusal.specs.Numbers.{pastTheEnd, lengthNotDigits, lengthOverTable, textNotAscii}
 use Rattle.field_table.specs.Table.{Table, isBinary}
 use Rattle.field_table.specs.declared.Class.{Class}
+use Rattle.field_table.specs.declared.Class.the-variants.{B}
 use Rattle.field_read.specs.declared.FieldRead.{FieldRead}
 use Rattle.field_read.specs.declared.FieldRead.the-variants.{Content, Refused}
-use Rattle.field_read.specs.Items.{lengthOf, readSized, readItem, readField}
+use Rattle.field_read.specs.Items.{lengthOf, readSized, readItem, readField, placeField}
 
 -- the ends of `content_length`
 pub length-fixed : (w m : ℕ) (ds : List ℕ) → w ≡ 0 → m ≡ lengthOf w m ds
@@ -64,3 +65,8 @@ module _ (w m : ℕ) (c : Class) (s : List ℕ) where
 pub field-by : (t : Table) (f w m : ℕ) (c : Class) (s : List ℕ) (r : FieldRead) → w ≡ t .width f → m ≡ t .most f → c ≡ t .class f → r ≡ readItem w m c s → r ≡ readField t f s
 unfolding readField
 field-by t f w m c s r a b d e = rw (← a, ← b, ← d) e
+
+-- `place_field`: the same, with the class b
+pub place-by : (t : Table) (f w m : ℕ) (s : List ℕ) (r : FieldRead) → w ≡ t .width f → m ≡ t .most f → r ≡ readItem w m B s → r ≡ placeField t f s
+unfolding placeField
+place-by t f w m s r a b e = rw (← a, ← b) e

@@ -4,6 +4,7 @@
 --   readSized w n m c s == the answer once the content's length n is known
 --   readItem w m c s    == the answer for a field with w length digits, length or greatest length m, and class c
 --   readField t f s     == the answer for field f of the table t
+--   placeField t f s    == the same where no byte of the content is asked about, as if it were binary
 --
 -- 01: "in a field: 5 for length digits, 6, 7, 5 for content, 8". Assumes nothing: these are definitions.
 use Prim.Native.Nat.{ℕ, _-_}
@@ -16,6 +17,7 @@ use Rattle.octets.specs.Numbers.{isDigit, isAscii, decimalOf}
 use Rattle.refusal.specs.Numbers.{pastTheEnd, lengthNotDigits, lengthOverTable, textNotAscii}
 use Rattle.field_table.specs.Table.{Table, isBinary}
 use Rattle.field_table.specs.declared.Class.{Class}
+use Rattle.field_table.specs.declared.Class.the-variants.{B}
 use Rattle.field_read.specs.declared.FieldRead.{FieldRead}
 use Rattle.field_read.specs.declared.FieldRead.the-variants.{Content, Refused}
 
@@ -37,3 +39,6 @@ readItem w m c s =
 
 unfoldable pub readField : Table → ℕ → List ℕ → FieldRead
 readField t f s = readItem (t .width f) (t .most f) (t .class f) s
+
+unfoldable pub placeField : Table → ℕ → List ℕ → FieldRead
+placeField t f s = readItem (t .width f) (t .most f) B s

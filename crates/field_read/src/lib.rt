@@ -7,7 +7,7 @@ ghost use Rattle.octets.specs.Lists.{either, all};
 ghost use Rattle.octets.specs.Numbers.{isAscii};
 ghost use Rattle.field_table.specs.Table.{isBinary};
 ghost use Rattle.field_table.specs.House.{house};
-ghost use Rattle.field_read.specs.Items.{lengthOf, readItem, readField};
+ghost use Rattle.field_read.specs.Items.{lengthOf, readItem, readField, placeField};
 
 // The content starts at start in the rest and is length bytes long; or the number of the refusal.
 pub enum FieldRead {
@@ -24,6 +24,15 @@ pub fn read_field(rest: &[u8], number: usize) -> FieldRead
     let most = field_table::most_of(number);
     let class = field_table::class_of(number);
     read_item(rest, width, most, class)
+}
+
+// Finds the content of field number and asks about none of its bytes: 8 is never answered, else it answers as read_field.
+pub fn place_field(rest: &[u8], number: usize) -> FieldRead
+    ensures { λ r. ⌜ r ≡ placeField house number (now (rest .entry)) ⌝ }
+{
+    let width = field_table::width_of(number);
+    let most = field_table::most_of(number);
+    read_item(rest, width, most, Class::B)
 }
 
 // Reads a field with that many length digits, that length or greatest length, and that class.

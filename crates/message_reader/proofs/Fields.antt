@@ -9,10 +9,10 @@ use borrow.Author.Tests.{eq-eqb, ne-eqb}
 use Rattle.octets.proofs.Cases.{by-bool, by-eq}
 use Rattle.refusal.specs.Refusals.{refusal}
 use Rattle.field_table.specs.Table.{Table, isBinary}
-use Rattle.field_read.specs.Items.{lengthOf, readField}
+use Rattle.field_read.specs.Items.{lengthOf, readField, placeField}
 use Rattle.field_read.specs.declared.FieldRead.{FieldRead}
 use Rattle.field_read.specs.declared.FieldRead.the-variants.{Content, Refused as FieldRefused}
-use Rattle.field_read.proofs.Found.{Found, found, reads}
+use Rattle.field_read.proofs.Found.{Found, found, reads, read-placed}
 use Rattle.message_language.specs.Language.{Item, Entry, entry, Fields, none, more}
 use Rattle.message_reader.specs.declared.FieldsRead.{FieldsRead}
 use Rattle.message_reader.specs.declared.FieldsRead.the-variants.{Used, Refused}
@@ -113,6 +113,13 @@ never o u n f p x y = let z : _≡_ {A = ℕ} 0 1 = cc in omega arith
 by-read : {P : Type 0} (o : FieldRead) → ((n : ℕ) → o ≡ FieldRefused n → P) → ((a n : ℕ) → o ≡ Content a n → P) → P
 by-read (FieldRefused n) x y = x n refl
 by-read (Content a n) x y = y a n refl
+
+-- where all fields are read to the end, placing the first gives what reading it gives
+pub first-placed : (t : Table) (at f : ℕ) (fs s : List ℕ) (u : ℕ) → readFields t at (f ∷ fs) s ≡ Used u → placeField t f s ≡ readField t f s
+first-placed t at f fs s u e =
+    by-read (readField t f s)
+    (λ n r. absurd (never _ u n f at (fields-refused t at f fs s n r) e))
+    (λ a n r. read-placed t f s a n r ∙ sym r)
 
 taken-none : (t : Table) (at : ℕ) (s : List ℕ) (u : ℕ) → readFields t at [] s ≡ Used u → Taken t at [] s u
 unfolding readFields entriesOf

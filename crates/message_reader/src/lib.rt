@@ -2,7 +2,7 @@
 use field_read::FieldRead;
 use refusal::Refusal;
 ghost use mathlib.Core.Path.{_≡_};
-ghost use Prim.Native.Nat.{_≤_, _+_, _*_};
+ghost use Prim.Native.Nat.{ℕ, _≤_, _+_, _*_};
 ghost use lib.ListN.{length};
 ghost use Rattle.octets.specs.Lists.{lay};
 ghost use Rattle.field_table.specs.House.{house};
@@ -140,6 +140,7 @@ fn write_notes(message: &[u8], bitmaps: usize, used: usize, notes: &mut [u8])
     requires { ⌜ bitmaps ≤ 3 ⌝ }
     requires { ⌜ 4 + 8 * bitmaps ≤ length (now message) ⌝ }
     requires { ⌜ notesRoom ≤ length (now notes) ⌝ }
+    requires { ⌜ readBody house (now message) bitmaps ≡ FieldsRead.Used used ⌝ }
     ensures { λ _. ⌜ now (notes .exit) ≡ lay (notesOf (readingWith house (now (message .entry)) bitmaps) used) (now (notes .entry)) ⌝ }
 {
     message_notes::put_head(&message[..4], bitmaps, notes);
@@ -148,11 +149,13 @@ fn write_notes(message: &[u8], bitmaps: usize, used: usize, notes: &mut [u8])
     message_notes::put_end(used, &mut notes[end..]);
 }
 
-// Writes a note for each field, one behind the other, and answers how many bytes they take.
+// Writes a note for each field, one behind the other, and answers how many bytes they take. The message is known to be good, and no
+// content is looked at again.
 fn write_fields(message: &[u8], bitmaps: usize, notes: &mut [u8]) -> usize
     requires { ⌜ bitmaps ≤ 3 ⌝ }
     requires { ⌜ 4 + 8 * bitmaps ≤ length (now message) ⌝ }
     requires { ⌜ 190 * fieldNoteSize ≤ length (now notes) ⌝ }
+    requires { ⌜ ((u : ℕ) × (readBody house (now message) bitmaps ≡ FieldsRead.Used u)) ⌝ }
     ensures size { λ r. ⌜ r ≡ length (fieldNotes (readingWith house (now (message .entry)) bitmaps .entries)) ⌝ }
     ensures writes { λ _. ⌜ now (notes .exit) ≡ lay (fieldNotes (readingWith house (now (message .entry)) bitmaps .entries)) (now (notes .entry)) ⌝ }
 {
@@ -164,7 +167,7 @@ fn write_fields(message: &[u8], bitmaps: usize, notes: &mut [u8]) -> usize
     let mut field: usize = 1;
     while field < end {
         if bitmap::has_field(maps, field) {
-            match field_read::read_field(&message[at..], field) {
+            match field_read::place_field(&message[at..], field) {
                 FieldRead::Refused(_) => {
                     return written;
                 }

@@ -36,7 +36,7 @@ write-notes-requires c κs =
     let bm = rf .before .before in
     let rh = bm .before .before in
     let h = sym (rh .read-head .ensures) ∙ bm .bitmaps .given .1 in
-    (head-few _ _ h, (head-room _ _ h, rh .before .if1 .left))
+    (head-few _ _ h, (head-room _ _ h, (rh .before .if1 .left, sym (rf .read-fields .ensures) ∙ c .before .before .used .given .1)))
 
 returns-2 : tie.Need-returns-2
 returns-2 c =

@@ -1,8 +1,8 @@
 -- The notes written and those of what is left from the place and the number that the loop has come to make the whole (Noting).
 use Prim.Native.Nat.{_+_, _*_, _-_}
 use Rattle.field_table.specs.House.{house}
-use Rattle.message_reader.proofs.Turns.{Met, met, passed-over}
-use Rattle.message_reader.proofs.Noting.{Noted, noted-first, noted-skip, noted-refused, noted-room, noted-within, noted-read, noted-end}
+use Rattle.message_reader.proofs.Turns.{Met, passed-over}
+use Rattle.message_reader.proofs.Noting.{Noted, noted-first, noted-skip, noted-met, noted-refused, noted-room, noted-within, noted-read, noted-end}
 use borrow.Author.Needs.{needs}
 use native.Mathlib.Omega.{arith}
 use Rattle.message_reader.proofs.write_fields.Statement.{statement}
@@ -36,22 +36,22 @@ part-maps-end : tie.Need-part-maps-end Inv-loop μ-loop
 part-maps-end c = search needs
 
 loop-holds : tie.Need-loop-holds Inv-loop μ-loop
-loop-holds c = let r = c .before .before .before .pre in noted-first (r .0) (r .1 .0) (r .1 .1)
+loop-holds c = let r = c .before .before .before .pre in noted-first (r .0) (r .1 .0) (r .1 .1 .0) (r .1 .1 .1 .1)
 
 has-field-requires : tie.Need-has-field-requires Inv-loop μ-loop
 has-field-requires c κs = search needs
 
-sub-read-field : tie.Need-sub-read-field Inv-loop μ-loop
-sub-read-field c = search needs
+sub-place-field : tie.Need-sub-place-field Inv-loop μ-loop
+sub-place-field c = search needs
 
-part-read-field-start : tie.Need-part-read-field-start Inv-loop μ-loop
-part-read-field-start c = search needs
+part-place-field-start : tie.Need-part-place-field-start Inv-loop μ-loop
+part-place-field-start c = search needs
 
-part-read-field-end : tie.Need-part-read-field-end Inv-loop μ-loop
-part-read-field-end c = search needs
+part-place-field-end : tie.Need-part-place-field-end Inv-loop μ-loop
+part-place-field-end c = search needs
 
-read-field-requires : tie.Need-read-field-requires Inv-loop μ-loop
-read-field-requires c κs = search needs
+place-field-requires : tie.Need-place-field-requires Inv-loop μ-loop
+place-field-requires c κs = search needs
 
 enum-told : tie.Need-enum-told Inv-loop μ-loop
 enum-told c = search needs
@@ -60,13 +60,13 @@ abbrev start : tie.At-loop Inv-loop μ-loop → tie.Start Inv-loop μ-loop
 start l = l .before .before .before .before
 
 -- the turn of the loop in which a field was met and read
-abbrev here : tie.After-read-field Inv-loop μ-loop → tie.At-loop Inv-loop μ-loop
+abbrev here : tie.After-place-field Inv-loop μ-loop → tie.At-loop Inv-loop μ-loop
 here c = c .before .before .before .before .before
 
-met-at : (c : tie.After-read-field Inv-loop μ-loop) → Met house (start (here c) .args .message .now) (start (here c) .args .bitmaps) (here c .loop .at) (here c .loop .field) (c .read-field .result)
+met-at : (c : tie.After-place-field Inv-loop μ-loop) → Met house (start (here c) .args .message .now) (start (here c) .args .bitmaps) (here c .loop .at) (here c .loop .field) (c .place-field .result)
 met-at c =
     let present = c .before .before in
-    met house _ _ _ _ _ _ (present .before .before .loop-test .taken) (present .before .has-field .ensures) (present .if1 .taken) (c .read-field .ensures)
+    noted-met (here c .loop .inv) _ _ (present .before .before .loop-test .taken) (present .before .has-field .ensures) (present .if1 .taken) (c .place-field .ensures)
 
 same-length : tie.Need-same-length Inv-loop μ-loop
 same-length c = c .before .before .before .before .before .before .before .loop .inv .written .size
@@ -161,10 +161,10 @@ write-fields-spec =
     part-maps-end
     loop-holds
     has-field-requires
-    sub-read-field
-    part-read-field-start
-    part-read-field-end
-    read-field-requires
+    sub-place-field
+    part-place-field-start
+    part-place-field-end
+    place-field-requires
     enum-told
     same-length
     returns

@@ -46,16 +46,18 @@ part-write-fields-end : tie.Need-part-write-fields-end
 part-write-fields-end c = search needs
 
 write-fields-requires : tie.Need-write-fields-requires
-write-fields-requires c κs = search needs
+write-fields-requires c κs =
+    let p = start (c .before .before .before) .pre in
+    (p .0, (p .1 .0, (search needs, (_, p .1 .1 .1))))
 
 add-end : tie.Need-add-end
 add-end c = omega (arith, written-at c)
 
 sub-put-end : tie.Need-sub-put-end
-sub-put-end c = omega (arith, written-at c, c .before .notes2 .given, c .before .before .before .before .before .notes .given, start (head-put c) .pre .1 .1)
+sub-put-end c = omega (arith, written-at c, c .before .notes2 .given, c .before .before .before .before .before .notes .given, start (head-put c) .pre .1 .1 .0)
 
 part-put-end-start : tie.Need-part-put-end-start
-part-put-end-start c = omega (arith, written-at c, c .before .notes2 .given, c .before .before .before .before .before .notes .given, start (head-put c) .pre .1 .1)
+part-put-end-start c = omega (arith, written-at c, c .before .notes2 .given, c .before .before .before .before .before .notes .given, start (head-put c) .pre .1 .1 .0)
 
 part-put-end-end : tie.Need-part-put-end-end
 part-put-end-end c = search needs
@@ -78,9 +80,9 @@ returns c =
     let u = endNote (p .args .used) in
     let l : length h ≡ 6 = head-long (take 4 s) (p .args .bitmaps) ∙ omega (arith, length-take-le 4 s (omega (arith, p .pre .1 .0))) in
     let w = b .before .before .write-fields .ensures .0 in
-    let e1 = head-put b .put-head .ensures ∙ placed-fits h d 6 l (omega (arith, p .pre .1 .1)) in
+    let e1 = head-put b .put-head .ensures ∙ placed-fits h d 6 l (omega (arith, p .pre .1 .1 .0)) in
     let e2 = lay-part h n d _ _ 6 e1 l (b .before .before .write-fields .ensures .1) in
-    placed-part (h ++ n) u d _ _ _ e2 (omega (arith, length-append h n)) (omega (arith, end-long (p .args .used), written-at b, p .pre .1 .1)) (c .before .before .put-end .ensures)
+    placed-part (h ++ n) u d _ _ _ e2 (omega (arith, length-append h n)) (omega (arith, end-long (p .args .used), written-at b, p .pre .1 .1 .0)) (c .before .before .put-end .ensures)
     ∙ ap (λ (x : List ℕ). lay x d) (append-assoc h n u)
 
 pub write-notes-spec : {M : Type 1} → statement M
