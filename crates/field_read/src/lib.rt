@@ -26,7 +26,8 @@ pub fn read_field(rest: &[u8], number: usize) -> FieldRead
     read_item(rest, width, most, class)
 }
 
-// Finds the content of field number and asks about none of its bytes: 8 is never answered, else it answers as read_field.
+// Finds the content of field number and asks about none of its bytes: where read_field answers 8, it answers the content's place; else
+// the same.
 pub fn place_field(rest: &[u8], number: usize) -> FieldRead
     ensures { λ r. ⌜ r ≡ placeField house number (now (rest .entry)) ⌝ }
 {

@@ -11,7 +11,7 @@ use Rattle.field_table.specs.House.{house, houseRows}
 use Rattle.bitmap.specs.Bits.{bitOf}
 use Rattle.bitmap.specs.Bitmaps.{isField, hasField, countOf, fieldsFrom, fieldsOf}
 use Rattle.message_language.specs.Language.{Item, Entry, entry, Fields, none, more, Message}
-use Rattle.message_language.specs.Worked.{mti, map, reading, WorkedMessages}
+use Rattle.message_language.specs.Worked.{mti, bitmap, reading, WorkedMessages}
 
 -- a message of that MTI, with these bitmaps and fields
 made : (m : ℕ) (maps body : List ℕ) (es : List Entry) → m ≡ countOf maps → length maps ≡ 8 * m → m ≤ 3 → Fields house (4 + 8 * m) (fieldsOf maps m) body es → Message house 3 (mti ++ (maps ++ body)) (reading m es)
@@ -47,31 +47,31 @@ fixed-70 : Item house 70 [] (0x33 ∷ 0x30 ∷ 0x31 ∷ [])
 unfolding house houseRows tableOf between
 fixed-70 = record { width = refl; digits = refl; fixed = λ _. refl; spelt = λ h. absurd (h refl); allowed = omega arith; text = λ _. refl }
 
-no-fields : Fields house 12 (fieldsOf (map 0) 1) [] []
+no-fields : Fields house 12 (fieldsOf (bitmap 0) 1) [] []
 unfolding fieldsOf fieldsFrom hasField isField between bitOf
 no-fields = none
 
-field-3 : Fields house 12 (fieldsOf (map 0x20) 1) (replicate 6 0x30) (entry 3 12 6 ∷ [])
+field-3 : Fields house 12 (fieldsOf (bitmap 0x20) 1) (replicate 6 0x30) (entry 3 12 6 ∷ [])
 unfolding fieldsOf fieldsFrom hasField isField between bitOf
 field-3 = more [] (replicate 6 0x30) [] fixed-3 refl none
 
-no-content : Fields house 12 (fieldsOf (map 0x40) 1) (0x30 ∷ 0x30 ∷ []) (entry 2 14 0 ∷ [])
+no-content : Fields house 12 (fieldsOf (bitmap 0x40) 1) (0x30 ∷ 0x30 ∷ []) (entry 2 14 0 ∷ [])
 unfolding fieldsOf fieldsFrom hasField isField between bitOf
 no-content = more (0x30 ∷ 0x30 ∷ []) [] [] counted-none refl none
 
-nineteen : Fields house 12 (fieldsOf (map 0x40) 1) (0x31 ∷ 0x39 ∷ replicate 19 0x31) (entry 2 14 19 ∷ [])
+nineteen : Fields house 12 (fieldsOf (bitmap 0x40) 1) (0x31 ∷ 0x39 ∷ replicate 19 0x31) (entry 2 14 19 ∷ [])
 unfolding fieldsOf fieldsFrom hasField isField between bitOf
 nineteen = more (0x31 ∷ 0x39 ∷ []) (replicate 19 0x31) [] counted-19 refl none
 
-two-maps : Fields house 20 (fieldsOf (map 0x80 ++ map 0) 2) [] []
+two-maps : Fields house 20 (fieldsOf (bitmap 0x80 ++ bitmap 0) 2) [] []
 unfolding fieldsOf fieldsFrom hasField isField between bitOf
 two-maps = none
 
-field-70 : Fields house 20 (fieldsOf (map 0x80 ++ map 4) 2) (0x33 ∷ 0x30 ∷ 0x31 ∷ []) (entry 70 20 3 ∷ [])
+field-70 : Fields house 20 (fieldsOf (bitmap 0x80 ++ bitmap 4) 2) (0x33 ∷ 0x30 ∷ 0x31 ∷ []) (entry 70 20 3 ∷ [])
 unfolding fieldsOf fieldsFrom hasField isField between bitOf
 field-70 = more [] (0x33 ∷ 0x30 ∷ 0x31 ∷ []) [] fixed-70 refl none
 
-three-maps : Fields house 28 (fieldsOf (map 0x80 ++ (map 0x80 ++ map 0)) 3) [] []
+three-maps : Fields house 28 (fieldsOf (bitmap 0x80 ++ (bitmap 0x80 ++ bitmap 0)) 3) [] []
 unfolding fieldsOf fieldsFrom hasField isField between bitOf
 three-maps = none
 
@@ -79,19 +79,19 @@ pub worked-messages : WorkedMessages
 unfolding countOf bitOf
 worked-messages =
     record {
-      case-1 = made 1 (map 0) [] [] refl refl (omega arith) no-fields;
-      case-2 = made 1 (map 0x20) (replicate 6 0x30) _ refl refl (omega arith) field-3;
+      case-1 = made 1 (bitmap 0) [] [] refl refl (omega arith) no-fields;
+      case-2 = made 1 (bitmap 0x20) (replicate 6 0x30) _ refl refl (omega arith) field-3;
       case-2-and-x =
           record {
-            message = mti ++ (map 0x20 ++ replicate 6 0x30);
+            message = mti ++ (bitmap 0x20 ++ replicate 6 0x30);
             after = 0x58 ∷ [];
             joined = refl;
             long = refl;
-            is = made 1 (map 0x20) (replicate 6 0x30) _ refl refl (omega arith) field-3;
+            is = made 1 (bitmap 0x20) (replicate 6 0x30) _ refl refl (omega arith) field-3;
           };
-      case-3 = made 1 (map 0x40) (0x30 ∷ 0x30 ∷ []) _ refl refl (omega arith) no-content;
-      case-4 = made 1 (map 0x40) (0x31 ∷ 0x39 ∷ replicate 19 0x31) _ refl refl (omega arith) nineteen;
-      case-6 = made 2 (map 0x80 ++ map 0) [] [] refl refl (omega arith) two-maps;
-      case-7 = made 2 (map 0x80 ++ map 4) (0x33 ∷ 0x30 ∷ 0x31 ∷ []) _ refl refl (omega arith) field-70;
-      case-8 = made 3 (map 0x80 ++ (map 0x80 ++ map 0)) [] [] refl refl (omega arith) three-maps;
+      case-3 = made 1 (bitmap 0x40) (0x30 ∷ 0x30 ∷ []) _ refl refl (omega arith) no-content;
+      case-4 = made 1 (bitmap 0x40) (0x31 ∷ 0x39 ∷ replicate 19 0x31) _ refl refl (omega arith) nineteen;
+      case-6 = made 2 (bitmap 0x80 ++ bitmap 0) [] [] refl refl (omega arith) two-maps;
+      case-7 = made 2 (bitmap 0x80 ++ bitmap 4) (0x33 ∷ 0x30 ∷ 0x31 ∷ []) _ refl refl (omega arith) field-70;
+      case-8 = made 3 (bitmap 0x80 ++ (bitmap 0x80 ++ bitmap 0)) [] [] refl refl (omega arith) three-maps;
     }

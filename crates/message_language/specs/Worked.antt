@@ -1,7 +1,7 @@
 -- 01's worked messages are messages of the language, with the readings that 01 gives of them. Nothing of the reader is named.
 --
 --   mti              == the MTI of all of them, 0800
---   map b            == a bitmap of the byte b and seven zeros
+--   bitmap b         == a bitmap of the byte b and seven zeros
 --   reading m es     == the reading of a message with that MTI, m bitmaps and the entries es
 --   WorkedMessages   == cases 1 to 4 and 6 to 8, where 01 says that they are accepted
 --
@@ -15,25 +15,25 @@ use Rattle.message_language.specs.Language.{Entry, entry, Reading, Messa
 abbrev pub mti : List ℕ
 mti = 0x30 ∷ 0x38 ∷ 0x30 ∷ 0x30 ∷ []
 
-abbrev pub map : ℕ → List ℕ
-map b = b ∷ replicate 7 0
+abbrev pub bitmap : ℕ → List ℕ
+bitmap b = b ∷ replicate 7 0
 
 abbrev pub reading : ℕ → List Entry → Reading
 reading m es = record { mti = mti; count = m; entries = es }
 
 pub record WorkedMessages : Type 0 where
   -- 1: "`0800` + 8 zero bytes: used 12"
-  pub case-1 : Message house 3 (mti ++ map 0) (reading 1 [])
+  pub case-1 : Message house 3 (mti ++ bitmap 0) (reading 1 [])
   -- 2: "`0800`, 20 + 7 zeros, `000000`: used 18 … With `X` after it: still 18"
-  pub case-2 : Message house 3 (mti ++ (map 0x20 ++ replicate 6 0x30)) (reading 1 (entry 3 12 6 ∷ []))
-  pub case-2-and-x : Begins house 3 (mti ++ (map 0x20 ++ (replicate 6 0x30 ++ (0x58 ∷ [])))) 18 (reading 1 (entry 3 12 6 ∷ []))
+  pub case-2 : Message house 3 (mti ++ (bitmap 0x20 ++ replicate 6 0x30)) (reading 1 (entry 3 12 6 ∷ []))
+  pub case-2-and-x : Begins house 3 (mti ++ (bitmap 0x20 ++ (replicate 6 0x30 ++ (0x58 ∷ [])))) 18 (reading 1 (entry 3 12 6 ∷ []))
   -- 3: "bitmap 40 + 7 zeros, `00`: field 2 empty, used 14"
-  pub case-3 : Message house 3 (mti ++ (map 0x40 ++ (0x30 ∷ 0x30 ∷ []))) (reading 1 (entry 2 14 0 ∷ []))
+  pub case-3 : Message house 3 (mti ++ (bitmap 0x40 ++ (0x30 ∷ 0x30 ∷ []))) (reading 1 (entry 2 14 0 ∷ []))
   -- 4: "With `19` and 19 digits: accepted"
-  pub case-4 : Message house 3 (mti ++ (map 0x40 ++ (0x31 ∷ 0x39 ∷ replicate 19 0x31))) (reading 1 (entry 2 14 19 ∷ []))
+  pub case-4 : Message house 3 (mti ++ (bitmap 0x40 ++ (0x31 ∷ 0x39 ∷ replicate 19 0x31))) (reading 1 (entry 2 14 19 ∷ []))
   -- 6: "bitmap 80 + 7 zeros … then 8 zeros: used 20, two bitmaps"
-  pub case-6 : Message house 3 (mti ++ (map 0x80 ++ map 0)) (reading 2 [])
+  pub case-6 : Message house 3 (mti ++ (bitmap 0x80 ++ bitmap 0)) (reading 2 [])
   -- 7: "80 + 7 zeros, 04 + 7 zeros, `301`: field 70, used 23"
-  pub case-7 : Message house 3 (mti ++ (map 0x80 ++ (map 4 ++ (0x33 ∷ 0x30 ∷ 0x31 ∷ [])))) (reading 2 (entry 70 20 3 ∷ []))
+  pub case-7 : Message house 3 (mti ++ (bitmap 0x80 ++ (bitmap 4 ++ (0x33 ∷ 0x30 ∷ 0x31 ∷ [])))) (reading 2 (entry 70 20 3 ∷ []))
   -- 8: "two bitmaps 80 + 7 zeros each, then 8 zeros: used 28, three bitmaps"
-  pub case-8 : Message house 3 (mti ++ (map 0x80 ++ (map 0x80 ++ map 0))) (reading 3 [])
+  pub case-8 : Message house 3 (mti ++ (bitmap 0x80 ++ (bitmap 0x80 ++ bitmap 0))) (reading 3 [])

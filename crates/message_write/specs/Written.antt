@@ -30,9 +30,9 @@ use Rattle.field_table.specs.Table.{Table}
 use Rattle.field_write.specs.Fields.{isShort, fieldBytes}
 use Rattle.bitmap.specs.Bitmaps.{noFields, setOf, mapsFor}
 use Rattle.message_language.specs.Language.{Entry}
+use Rattle.message_walk.specs.Walk.{Test, countIn, mtiIn, contentOf, Ending, bad, ends, walked, entriesIn}
 use Rattle.message_write.specs.declared.Choice.{Choice}
 use Rattle.message_write.specs.declared.Choice.the-variants.{Named, Short}
-use Rattle.message_walk.specs.Walk.{Test, countIn, mtiIn, contentOf, Ending, bad, ends, walked, entriesIn}
 
 unfoldable pub numbersOf : List Entry → List ℕ
 numbersOf [] = []

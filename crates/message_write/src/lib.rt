@@ -24,7 +24,7 @@ pub struct Cleaned {
 }
 
 // Which fields a set holds: all that the notes name, or those whose contents are padded when they are written.
-pub enum Choice {
+enum Choice {
     Named,
     Short,
 }

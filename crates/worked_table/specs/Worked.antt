@@ -20,6 +20,7 @@ use Rattle.refusal.specs.Refusals.{Told, tell, plain, refusal, converted, conve
 use Rattle.encoding_bcd.specs.Bcd.{packed, unpacked, encodeFault as packFault, decodeFault as unpackFault}
 use Rattle.encoding_ebcdic.specs.Ebcdic.{ebcdicOf, encodeFault as translateFault}
 use Rattle.field_table.specs.House.{house}
+use Rattle.message_language.specs.Worked.{mti, bitmap}
 use Rattle.message_reader.specs.Reader.{toldRead, readAnswer, notesAfter}
 use Rattle.validation_pan.specs.Pan.{panFault}
 
@@ -51,13 +52,6 @@ noted r = filled r (1531 - length r)
 
 abbrev done : ℕ → Told
 done n = tell (plain 0) (n ∷ [])
-
--- `0800`, a byte and seven zeros, digits, notes
-abbrev mti : List ℕ
-mti = 0x30 ∷ 0x38 ∷ 0x30 ∷ 0x30 ∷ []
-
-abbrev bitmap : ℕ → List ℕ
-bitmap x = x ∷ replicate 7 0
 
 abbrev head : ℕ → List ℕ
 head m = 1 ∷ (mti ++ (m ∷ []))
