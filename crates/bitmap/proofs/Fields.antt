@@ -1,15 +1,16 @@
 -- The list of the fields present: a number at a time, and how many there are. Assumes nothing.
 use Prim.Native.Nat.{ℕ, zero, suc, _+_, _-_, _*_, _≤_, _<_}
-use mathlib.Core.Path.{_≡_, refl, ap, _∙_}
+use mathlib.Core.Path.{_≡_, refl, sym, ap, _∙_}
 use mathlib.Core.Bool.{Bool, true, false}
-use mathlib.Core.List.{List, [], _∷_, _++_}
+use mathlib.Core.List.{List, [], _∷_, _++_, append-nil}
 use native.Mathlib.Omega.{arith}
 use native.Mathlib.Nat.{zero-add, add-zero}
 use lib.ListN.{length, length-append}
-use Rattle.octets.specs.Lists.{between, all}
+use Rattle.octets.specs.Lists.{both, between, all}
 use Rattle.octets.proofs.Cases.{by-bool, by-le, both-left}
 use Rattle.bitmap.specs.Bits.{bitOf}
 use Rattle.bitmap.specs.Bitmaps.{isField, hasField, fieldsFrom, fieldsOf}
+use Rattle.bitmap.proofs.Bits.{bit-past}
 
 -- a number more, with the counter as a loop from f to end has it
 module _ (p : ℕ → Bool) (end f : ℕ) (more : f < end) where
@@ -55,6 +56,29 @@ fields-split p (suc k) j f =
     by-bool (p f)
     (λ t. rw (n, fieldsFrom, t) (ap (λ (l : List ℕ). f ∷ l) h))
     (λ t. rw (n, fieldsFrom, t) h)
+
+-- there are none where no bit is, so that bitmaps that are not there can be counted in
+fields-none : (p : ℕ → Bool) (k f : ℕ) → ((g : ℕ) → f ≤ g → p g ≡ false) → fieldsFrom p k f ≡ []
+unfolding fieldsFrom
+fields-none p zero f n = refl
+fields-none p (suc k) f n = rw (fieldsFrom, n f (omega arith)) (fields-none p k (f + 1) (λ g l. n g (omega arith)))
+
+past-none : (s : List ℕ) (m g : ℕ) → length s ≤ 8 * m → 64 * m + 1 ≤ g → hasField s g ≡ false
+unfolding hasField
+past-none s m g h l = rw (← bit-past s g (λ (z : g ≡ 0). omega arith) (omega arith)) (both-none (isField g))
+  where
+    both-none : (a : Bool) → both a false ≡ false
+    both-none true = refl
+    both-none false = refl
+
+pub fields-in : (s : List ℕ) (m : ℕ) → m ≤ 3 → length s ≤ 8 * m → fieldsOf s 3 ≡ fieldsOf s m
+unfolding fieldsOf
+fields-in s m few h =
+    let e : 64 * m + (192 - 64 * m) ≡ 192 = omega arith in
+    ap (λ (k : ℕ). fieldsFrom (hasField s) k 1) (sym e)
+    ∙ fields-split (hasField s) (64 * m) (192 - 64 * m) 1
+    ∙ ap (λ (fs : List ℕ). fieldsFrom (hasField s) (64 * m) 1 ++ fs) (fields-none (hasField s) (192 - 64 * m) (1 + 64 * m) (λ g l. past-none s m g h (omega arith)))
+    ∙ append-nil (fieldsFrom (hasField s) (64 * m) 1)
 
 fields-one : (p : ℕ → Bool) (f : ℕ) → p f ≡ false → fieldsFrom p 1 f ≡ []
 unfolding fieldsFrom

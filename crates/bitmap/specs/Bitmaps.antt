@@ -5,6 +5,8 @@
 --   countOf s         == how many bitmaps there are, as bits 1 and 65 say
 --   fieldsFrom p k f  == those of the k numbers from f on that pass p, rising
 --   fieldsOf s m      == the fields present in the m bitmaps s, rising
+--   nextFrom p k f    == the first of the k numbers from f on that passes p; f + k where none does
+--   nextField s f     == the first field from number f on that is present in s; 193, or f where it is greater, where there is none
 --   noFields          == the empty set
 --   withField s f     == the set s with the field f; s where f is no field
 --   isIn g fs         == g is one of the numbers fs
@@ -42,6 +44,13 @@ fieldsFrom p (suc k) f = elim (p f) [ true ↦ f ∷ fieldsFrom p k (f + 1) | fa
 
 unfoldable pub fieldsOf : List ℕ → ℕ → List ℕ
 fieldsOf s m = fieldsFrom (hasField s) (64 * m) 1
+
+unfoldable pub nextFrom : (ℕ → Bool) → ℕ → ℕ → ℕ
+nextFrom p zero f = f
+nextFrom p (suc k) f = elim (p f) [ true ↦ f | false ↦ nextFrom p k (f + 1) ]
+
+unfoldable pub nextField : List ℕ → ℕ → ℕ
+nextField s f = nextFrom (hasField s) (193 - f) f
 
 abbrev pub noFields : List ℕ
 noFields = replicate 24 0

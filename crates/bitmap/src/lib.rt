@@ -1,14 +1,21 @@
 // Bitmaps: which fields a message has. 01, "The message".
 ghost use mathlib.Core.Path.{_≡_};
-ghost use Prim.Native.Nat.{_<_, _≤_, min};
+ghost use Prim.Native.Nat.{_-_, _<_, _≤_, min};
 ghost use mathlib.Core.Bool.{true};
-ghost use Rattle.octets.specs.Lists.{all, between};
-ghost use Rattle.bitmap.specs.Bits.{bitOf, withBit};
-ghost use Rattle.bitmap.specs.Bitmaps.{isField, hasField, countOf, noFields, withField, chain, mapByte, mapsFrom, mapsFor};
+ghost use lib.ListN.{length, replicate};
+ghost use Rattle.octets.specs.Lists.{all, between, lay};
+ghost use Rattle.bitmap.specs.Bits.{bitIn, bitOf, withBit};
+ghost use Rattle.bitmap.specs.Bitmaps.{isField, hasField, countOf, fieldsOf, nextFrom, nextField, noFields, withField, chain, mapByte, mapsFrom, mapsFor};
 
 // A set of fields, as 24 bytes of bits placed as in the bitmaps.
 pub struct FieldSet {
     bits: [u8; 24],
+}
+
+// Fields as a list: how many there are, and their numbers at the front of 192; the others are zero.
+pub struct FieldList {
+    pub count: usize,
+    pub numbers: [u8; 192],
 }
 
 // Up to three bitmaps: their count, and their bytes at the front of 24; the others are zero.
@@ -110,6 +117,72 @@ pub fn has_field(bits: &[u8], field: usize) -> bool
         return false;
     }
     is_set(bits, field)
+}
+
+// The numbers of the fields present, rising.
+pub fn list_fields(bits: &[u8]) -> FieldList
+    ensures count { λ r. ⌜ r .count ≡ length (fieldsOf (now (bits .entry)) 3) ⌝ }
+    ensures numbers { λ r. ⌜ r .numbers ≡ lay (fieldsOf (now (bits .entry)) 3) (replicate 192 0) ⌝ }
+{
+    let mut numbers = [0u8; 192];
+    let mut n = 0;
+    let mut f = next_field(bits, 1);
+    while f < 193 {
+        numbers[n] = f as u8;
+        n += 1;
+        f = next_field(bits, f + 1);
+    }
+    FieldList { count: n, numbers }
+}
+
+// The first field from number from on that is present, in bitmaps or in a set of fields: 193 where there is none more, or from where it is
+// greater still.
+pub fn next_field(bits: &[u8], from: usize) -> usize
+    ensures { λ r. ⌜ r ≡ nextField (now (bits .entry)) from ⌝ }
+{
+    if from == 0 {
+        return next_from(bits, 1);
+    }
+    next_from(bits, from)
+}
+
+// The same from number 1 on: a byte at a time, and in each a set bit at a time.
+fn next_from(bits: &[u8], from: usize) -> usize
+    requires { ⌜ 1 ≤ from ⌝ }
+    ensures { λ r. ⌜ r ≡ nextField (now (bits .entry)) from ⌝ }
+{
+    let mut f = from;
+    while f < 193 {
+        let k = f - 1;
+        let at = k / 8;
+        if bits.len() <= at {
+            return 193;
+        }
+        let i = next_bit(bits[at], k % 8);
+        let g = 8 * at + i + 1;
+        if i < 8 {
+            if is_field(g) {
+                return g;
+            }
+            f = g + 1;
+        } else {
+            f = g;
+        }
+    }
+    f
+}
+
+// The first bit of a byte that is set, from bit i on, counted from the high one; 8 where there is none.
+fn next_bit(b: u8, i: usize) -> usize
+    requires { ⌜ i < 8 ⌝ }
+    ensures value { λ r. ⌜ r ≡ nextFrom (bitIn b) (8 - i) i ⌝ }
+    ensures within { λ r. ⌜ (i ≤ r) × (r ≤ 8) ⌝ }
+{
+    let rest = octets::wide(b) % (1 << (8 - i));
+    if rest == 0 {
+        return 8;
+    }
+    (usize::leading_zeros(rest) as usize) - 56
 }
 
 // How many bitmaps the first two ask for: one to three.

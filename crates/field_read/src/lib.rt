@@ -6,7 +6,7 @@ ghost use lib.ListN.{length};
 ghost use Rattle.octets.specs.Lists.{either, all};
 ghost use Rattle.octets.specs.Numbers.{isAscii};
 ghost use Rattle.field_table.specs.Table.{isBinary};
-ghost use Rattle.field_table.specs.House.{house};
+ghost use Rattle.field_table.specs.Codes.{decoded};
 ghost use Rattle.field_read.specs.Items.{lengthOf, readItem, readField, placeField};
 
 // The content starts at start in the rest and is length bytes long; or the number of the refusal.
@@ -15,24 +15,25 @@ pub enum FieldRead {
     Refused(u8),
 }
 
-// Reads field number at the front of rest; the caller knows where rest stands in the message, and adds field and position to a
-// refusal. A number that no field has is read as the table has it, as an empty content: which numbers are fields, the bitmaps say.
-pub fn read_field(rest: &[u8], number: usize) -> FieldRead
-    ensures { λ r. ⌜ r ≡ readField house number (now (rest .entry)) ⌝ }
+// Reads field number at the front of rest by the table lent, whatever it holds; the caller knows where rest stands in the message, and
+// adds field and position to a refusal. A number that the table has no field for is read as an empty content: which numbers are fields,
+// the bitmaps say.
+pub fn read_field(rest: &[u8], number: usize, table: &[u16]) -> FieldRead
+    ensures { λ r. ⌜ r ≡ readField (decoded (now (table .entry))) number (now (rest .entry)) ⌝ }
 {
-    let width = field_table::width_of(number);
-    let most = field_table::most_of(number);
-    let class = field_table::class_of(number);
+    let width = field_table::width_in(table, number);
+    let most = field_table::most_in(table, number);
+    let class = field_table::class_in(table, number);
     read_item(rest, width, most, class)
 }
 
 // Finds the content of field number and asks about none of its bytes: where read_field answers 8, it answers the content's place; else
 // the same.
-pub fn place_field(rest: &[u8], number: usize) -> FieldRead
-    ensures { λ r. ⌜ r ≡ placeField house number (now (rest .entry)) ⌝ }
+pub fn place_field(rest: &[u8], number: usize, table: &[u16]) -> FieldRead
+    ensures { λ r. ⌜ r ≡ placeField (decoded (now (table .entry))) number (now (rest .entry)) ⌝ }
 {
-    let width = field_table::width_of(number);
-    let most = field_table::most_of(number);
+    let width = field_table::width_in(table, number);
+    let most = field_table::most_in(table, number);
     read_item(rest, width, most, Class::B)
 }
 

@@ -1,3 +1,3 @@
-pub mod Arrays
 pub mod Codes
 pub mod Rows
+pub mod Decoded

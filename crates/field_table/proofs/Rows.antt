@@ -1,6 +1,6 @@
 -- What holds of every row holds of the row that any number finds. Assumes nothing.
 use Prim.Native.Nat.{ℕ, _^_, _≤_, _<_}
-use mathlib.Core.Path.{_≡_, refl, sym, ap}
+use mathlib.Core.Path.{_≡_, refl, sym}
 use mathlib.Core.List.{List, [], _∷_}
 use mathlib.Core.Bool.{Bool, true, false}
 use native.Mathlib.Omega.{arith}
@@ -11,7 +11,6 @@ use Rattle.octets.proofs.Cases.{false-true}
 use Rattle.octets.proofs.Tables.{passed-left, passed-right}
 use Rattle.field_table.specs.Table.{Row, Table, none, find, tableOf}
 use Rattle.field_table.specs.House.{houseRows, house}
-use Rattle.field_table.specs.declared.Class.the-variants.{B}
 
 -- the test p passes at `none` and at each row
 abbrev pub allRows : (Row → Bool) → List Row → Bool
@@ -40,27 +39,19 @@ found-none m (r ∷ rs) f t h =
     go true q z e = rw z e
     go false q z e = e
 
-house-none : (f : ℕ) → 192 < f → find houseRows f ≡ none
-unfolding houseRows
-house-none f h = found-none 192 houseRows f tt h
-
-pub width-none : (f : ℕ) → 192 < f → 0 ≡ house .width f
-unfolding house tableOf
-width-none f h = sym (ap (λ (r : Row). r .width) (house-none f h))
-
-pub most-none : (f : ℕ) → 192 < f → 0 ≡ house .most f
-unfolding house tableOf
-most-none f h = sym (ap (λ (r : Row). r .most) (house-none f h))
-
-pub class-none : (f : ℕ) → 192 < f → B ≡ house .class f
-unfolding house tableOf
-class-none f h = sym (ap (λ (r : Row). r .class) (house-none f h))
-
 -- what readers and writers ask of a table: at most three length digits, lengths of at most 999, and a variable field's lengths fit in its digits
 pub record Small (t : Table) : Type 0 where
   pub width-small : (f : ℕ) → t .width f ≤ 3
   pub most-small : (f : ℕ) → t .most f ≤ 999
   pub most-spelt : (f : ℕ) → (t .width f ≡ 0 → ⊥) → t .most f < 10 ^ t .width f
+
+-- what bounds the sizes that are written: every table that codes stand for has it
+pub record Bounded (t : Table) : Type 0 where
+  pub width-small : (f : ℕ) → t .width f ≤ 3
+  pub most-small : (f : ℕ) → t .most f ≤ 1023
+
+pub small-bounded : (t : Table) → Small t → Bounded t
+small-bounded t s = record { width-small = s .width-small; most-small = λ f. omega (arith, s .most-small f) }
 
 abbrev spells : Row → Bool
 spells r = either (eqb (r .width) 0) (ltb (r .most) (10 ^ r .width))

@@ -16,7 +16,7 @@ use Rattle.octets.proofs.Numbers.{digits-length, number-digits}
 use Rattle.field_table.specs.Table.{Table, isBinary}
 use Rattle.field_table.specs.declared.Class.{Class}
 use Rattle.field_table.specs.declared.Class.the-variants.{N, A, An, Ans, Ns, Z, Xn, B}
-use Rattle.field_table.proofs.Rows.{Small}
+use Rattle.field_table.proofs.Rows.{Small, Bounded}
 use Rattle.field_write.specs.Fields.{exactFault, cleanFault, isShort, missing, padByte, padsLeft, padded, cleaned, fieldBytes, writtenSize, longest}
 use Rattle.field_write.proofs.Allowed.{clean-passed, exact-passes, exact-not-short, not-short-long}
 use Rattle.field_write.proofs.Padding.{missing-variable, missing-fixed, padded-none}
@@ -114,7 +114,7 @@ cleaned-bytes t f s e =
     (λ v. ap (λ (n : ℕ). decimal (t .width f) n ++ cleaned t f s) (omega (arith, cleaned-length t f s, missing-variable t f (length s) v)))
 
 -- what `written_size` answers is the size, where the content is taken
-pub clean-size : (t : Table) (f : ℕ) (s : List ℕ) → Small t → cleanFault t f s ≡ 0 → cond (leb (length s) longest) (writtenSize t f (length s)) 0 ≡ length (fieldBytes t f s)
+pub clean-size : (t : Table) (f : ℕ) (s : List ℕ) → Bounded t → cleanFault t f s ≡ 0 → cond (leb (length s) longest) (writtenSize t f (length s)) 0 ≡ length (fieldBytes t f s)
 clean-size t f s small e =
     let m = clean-passed t f s e .most in
     rw (le-leb (length s) longest (omega (arith, small .most-small f))) (sym (written-size t f s))

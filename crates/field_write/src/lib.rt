@@ -7,71 +7,71 @@ ghost use lib.Dec.{leb};
 ghost use lib.ListN.{length, replicate};
 ghost use Rattle.octets.specs.Lists.{placed};
 ghost use Rattle.octets.specs.Numbers.{decimal};
-ghost use Rattle.field_table.specs.House.{house};
+ghost use Rattle.field_table.specs.Codes.{decoded};
 ghost use Rattle.field_write.specs.Fields.{isAllowedLength, textFault, exactFault, cleanFault, isShort, missing, padByte, padsLeft, padded, fieldInto, writtenSize, longest};
 
 // The greatest length of a content that a note can hold, in two bytes.
 pub const LONGEST: usize = 65535;
 
 // Why the exact writer refuses the content of field number: 12 or 8; 0 where it does not. The caller adds field and position.
-pub fn exact_fault(number: usize, content: &[u8]) -> u8
-    ensures { λ r. ⌜ r ≡ exactFault house number (now (content .entry)) ⌝ }
+pub fn exact_fault(number: usize, content: &[u8], table: &[u16]) -> u8
+    ensures { λ r. ⌜ r ≡ exactFault (decoded (now (table .entry))) number (now (content .entry)) ⌝ }
 {
-    if !is_allowed_length(number, content.len()) {
+    if !is_allowed_length(number, content.len(), table) {
         return refusal::LENGTH_NOT_ALLOWED;
     }
-    text_fault(field_table::class_of(number), content)
+    text_fault(field_table::class_in(table, number), content)
 }
 
 // The same of the cleaning writer, which pads a content that is too short.
-pub fn clean_fault(number: usize, content: &[u8]) -> u8
-    ensures { λ r. ⌜ r ≡ cleanFault house number (now (content .entry)) ⌝ }
+pub fn clean_fault(number: usize, content: &[u8], table: &[u16]) -> u8
+    ensures { λ r. ⌜ r ≡ cleanFault (decoded (now (table .entry))) number (now (content .entry)) ⌝ }
 {
-    if field_table::most_of(number) < content.len() {
+    if field_table::most_in(table, number) < content.len() {
         return refusal::LENGTH_NOT_ALLOWED;
     }
-    text_fault(field_table::class_of(number), content)
+    text_fault(field_table::class_in(table, number), content)
 }
 
 // Whether a content of that length may stand in field number.
-pub fn is_allowed_length(number: usize, length: usize) -> bool
-    ensures { λ r. ⌜ r ≡ isAllowedLength house number length ⌝ }
+pub fn is_allowed_length(number: usize, length: usize, table: &[u16]) -> bool
+    ensures { λ r. ⌜ r ≡ isAllowedLength (decoded (now (table .entry))) number length ⌝ }
 {
-    let most = field_table::most_of(number);
-    if field_table::width_of(number) == 0 {
+    let most = field_table::most_in(table, number);
+    if field_table::width_in(table, number) == 0 {
         return length == most;
     }
     length <= most
 }
 
 // Whether a content of that length is padded when it is written to field number.
-pub fn is_short(number: usize, length: usize) -> bool
-    ensures { λ r. ⌜ r ≡ isShort house number length ⌝ }
+pub fn is_short(number: usize, length: usize, table: &[u16]) -> bool
+    ensures { λ r. ⌜ r ≡ isShort (decoded (now (table .entry))) number length ⌝ }
 {
-    0 < missing(number, length)
+    0 < missing(number, length, table)
 }
 
 // How many bytes field number takes with a content of that length; 0 for a length that no note can hold.
-pub fn written_size(number: usize, length: usize) -> usize
-    ensures { λ r. ⌜ r ≡ cond (leb length longest) (writtenSize house number length) 0 ⌝ }
+pub fn written_size(number: usize, length: usize, table: &[u16]) -> usize
+    ensures { λ r. ⌜ r ≡ cond (leb length longest) (writtenSize (decoded (now (table .entry))) number length) 0 ⌝ }
 {
     if LONGEST < length {
         return 0;
     }
-    field_table::width_of(number) + length + missing(number, length)
+    field_table::width_in(table, number) + length + missing(number, length, table)
 }
 
 // Writes field number to the front of out. Where the content is too long for the field, or the field does not fit, out is left as it is.
-pub fn put_field(number: usize, content: &[u8], out: &mut [u8])
-    ensures { λ _. ⌜ now (out .exit) ≡ fieldInto house number (now (content .entry)) (now (out .entry)) ⌝ }
+pub fn put_field(number: usize, content: &[u8], table: &[u16], out: &mut [u8])
+    ensures { λ _. ⌜ now (out .exit) ≡ fieldInto (decoded (now (table .entry))) number (now (content .entry)) (now (out .entry)) ⌝ }
 {
-    if field_table::most_of(number) < content.len() {
+    if field_table::most_in(table, number) < content.len() {
         return;
     }
-    let width = field_table::width_of(number);
+    let width = field_table::width_in(table, number);
     if width == 0 {
-        let pad = missing(number, content.len());
-        put_padded(field_table::class_of(number), pad, content, out);
+        let pad = missing(number, content.len(), table);
+        put_padded(field_table::class_in(table, number), pad, content, out);
         return;
     }
     put_counted(width, content, out);
@@ -91,13 +91,13 @@ fn text_fault(class: Class, content: &[u8]) -> u8
 }
 
 // By how many bytes a content of that length is too short for field number; a variable one never is.
-fn missing(number: usize, length: usize) -> usize
-    ensures { λ r. ⌜ r ≡ missing house number length ⌝ }
+fn missing(number: usize, length: usize, table: &[u16]) -> usize
+    ensures { λ r. ⌜ r ≡ missing (decoded (now (table .entry))) number length ⌝ }
 {
-    if field_table::width_of(number) != 0 {
+    if field_table::width_in(table, number) != 0 {
         return 0;
     }
-    let most = field_table::most_of(number);
+    let most = field_table::most_in(table, number);
     if most < length {
         return 0;
     }

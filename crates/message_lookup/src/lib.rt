@@ -1,6 +1,5 @@
 // Lookup: where a field's content lies in the values, and the content itself. 01, "Notes" and "Lookup walks".
 use message_walk::Judged;
-use message_walk::Rule;
 use message_walk::Walked;
 use refusal::Refusal;
 ghost use mathlib.Core.Path.{_≡_};
@@ -20,7 +19,7 @@ pub enum Found {
 pub fn look_up(values: &[u8], notes: &[u8], number: usize) -> Found
     ensures { λ r. ⌜ r ≡ lookedUp (now (values .entry)) (now (notes .entry)) number ⌝ }
 {
-    match message_walk::walk(values, notes, Rule::Any) {
+    match message_walk::walk_any(values, notes) {
         Walked::Refused(refusal) => Found::Refused(refusal),
         Walked::Ended { at, said: _ } => find(values, notes, number, at),
     }
@@ -49,7 +48,7 @@ fn find(values: &[u8], notes: &[u8], number: usize, end: usize) -> Found
     let mut last: usize = 0;
     let mut at = message_notes::HEAD_SIZE;
     while at <= notes.len() {
-        match message_walk::judge(values, &notes[at..], count, last, Rule::Any) {
+        match message_walk::judge_any(values, &notes[at..], count, last) {
             Judged::Refused {
                 number: _,
                 field: _,

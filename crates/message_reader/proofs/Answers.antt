@@ -1,6 +1,6 @@
 -- The ends of `read`, with the facts as its code has them. Assumes nothing.
 use Prim.Native.Nat.{ℕ, _+_, _*_, _≤_, _<_}
-use mathlib.Core.Path.{_≡_, sym, _∙_}
+use mathlib.Core.Path.{_≡_, sym, ap, _∙_}
 use mathlib.Core.List.{List}
 use native.Mathlib.Omega.{arith}
 use lib.ListN.{length}
@@ -62,3 +62,11 @@ module _ (t : Table) (s b : List ℕ) where
     ends-read m u after h f w =
         let e : readAnswer t s b ≡ Accepted u m = answer-is ∙ message-read t s m h u f in
         record { answer = sym e; notes = rw (notesAfter, e) w }
+
+-- the numbers that `read` lends stand for another table
+module _ (t u : Table) (s b : List ℕ) (same : t ≡ u) where
+  pub answer-by : (r : ReadAnswer) → r ≡ readAnswer t s b → r ≡ readAnswer u s b
+  answer-by r e = e ∙ ap (λ (x : Table). readAnswer x s b) same
+
+  pub notes-by : (after : List ℕ) → after ≡ notesAfter t s b → after ≡ notesAfter u s b
+  notes-by after e = e ∙ ap (λ (x : Table). notesAfter x s b) same

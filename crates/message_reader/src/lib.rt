@@ -3,11 +3,13 @@ use field_read::FieldRead;
 use refusal::Refusal;
 ghost use mathlib.Core.Path.{_≡_};
 ghost use Prim.Native.Nat.{ℕ, _≤_, _+_, _*_};
-ghost use lib.ListN.{length};
+ghost use lib.ListN.{length, drop};
 ghost use Rattle.octets.specs.Lists.{lay};
 ghost use Rattle.field_table.specs.House.{house};
+ghost use Rattle.field_table.specs.Codes.{decoded};
+ghost use Rattle.bitmap.specs.Bitmaps.{fieldsOf};
 ghost use Rattle.message_notes.specs.Notes.{notesOf, fieldNotes, notesRoom, fieldNoteSize};
-ghost use Rattle.message_reader.specs.Reader.{headRead, mapsRead, readBody, readingWith, readAnswer, notesAfter};
+ghost use Rattle.message_reader.specs.Reader.{headRead, mapsRead, readFields, entriesOf, mapsOf, readBody, readingWith, readAnswer, notesAfter};
 
 // The bytes used and the count of bitmaps, or the refusal.
 pub enum ReadAnswer {
@@ -41,13 +43,47 @@ pub fn read(message: &[u8], notes: &mut [u8]) -> ReadAnswer
     }
     match read_head(message) {
         HeadRead::Refused(refusal) => ReadAnswer::Refused(refusal),
-        HeadRead::Bitmaps(bitmaps) => match read_fields(message, bitmaps) {
-            FieldsRead::Refused(refusal) => ReadAnswer::Refused(refusal),
-            FieldsRead::Used(used) => {
-                write_notes(message, bitmaps, used, notes);
-                ReadAnswer::Accepted { used, bitmaps }
-            }
-        },
+        HeadRead::Bitmaps(bitmaps) => {
+            let table = field_table::house_table();
+            read_by(message, bitmaps, &table, notes)
+        }
+    }
+}
+
+// Reads the fields of a message with a good head by the table lent, and writes its notes: lists the fields that its bitmaps name.
+fn read_by(message: &[u8], bitmaps: usize, table: &[u16], notes: &mut [u8]) -> ReadAnswer
+    requires { ⌜ headRead (now message) ≡ HeadRead.Bitmaps bitmaps ⌝ }
+    requires { ⌜ notesRoom ≤ length (now notes) ⌝ }
+    ensures answers { λ r. ⌜ r ≡ readAnswer (decoded (now (table .entry))) (now (message .entry)) (now (notes .entry)) ⌝ }
+    ensures writes { λ _. ⌜ now (notes .exit) ≡ notesAfter (decoded (now (table .entry))) (now (message .entry)) (now (notes .entry)) ⌝ }
+{
+    let start = 4 + 8 * bitmaps;
+    let list = bitmap::list_fields(&message[4..start]);
+    let count = list.count;
+    let numbers = list.numbers;
+    read_listed(message, bitmaps, &numbers[..count], table, notes)
+}
+
+// The same, with the numbers of the fields in hand.
+fn read_listed(
+    message: &[u8],
+    bitmaps: usize,
+    fields: &[u8],
+    table: &[u16],
+    notes: &mut [u8],
+) -> ReadAnswer
+    requires { ⌜ headRead (now message) ≡ HeadRead.Bitmaps bitmaps ⌝ }
+    requires { ⌜ now fields ≡ fieldsOf (mapsOf (now message) bitmaps) bitmaps ⌝ }
+    requires { ⌜ notesRoom ≤ length (now notes) ⌝ }
+    ensures answers { λ r. ⌜ r ≡ readAnswer (decoded (now (table .entry))) (now (message .entry)) (now (notes .entry)) ⌝ }
+    ensures writes { λ _. ⌜ now (notes .exit) ≡ notesAfter (decoded (now (table .entry))) (now (message .entry)) (now (notes .entry)) ⌝ }
+{
+    match read_fields(message, 4 + 8 * bitmaps, fields, table) {
+        FieldsRead::Refused(refusal) => ReadAnswer::Refused(refusal),
+        FieldsRead::Used(used) => {
+            write_notes(message, bitmaps, used, fields, table, notes);
+            ReadAnswer::Accepted { used, bitmaps }
+        }
     }
 }
 
@@ -102,84 +138,90 @@ fn read_bitmaps(message: &[u8]) -> HeadRead
     HeadRead::Bitmaps(3)
 }
 
-// Reads every field that the bitmaps name, each from the rest of the message. Nothing is written.
-fn read_fields(message: &[u8], bitmaps: usize) -> FieldsRead
-    requires { ⌜ bitmaps ≤ 3 ⌝ }
-    requires { ⌜ 4 + 8 * bitmaps ≤ length (now message) ⌝ }
-    ensures { λ r. ⌜ r ≡ readBody house (now (message .entry)) bitmaps ⌝ }
+// Reads the fields one after the other, the first at start, each from the rest of the message. Nothing is written.
+fn read_fields(message: &[u8], start: usize, fields: &[u8], table: &[u16]) -> FieldsRead
+    requires { ⌜ start ≤ length (now message) ⌝ }
+    ensures { λ r. ⌜ r ≡ readFields (decoded (now (table .entry))) start (now (fields .entry)) (drop start (now (message .entry))) ⌝ }
 {
-    let start = 4 + 8 * bitmaps;
-    let end = 64 * bitmaps + 1;
-    let maps = &message[4..start];
     let mut at = start;
-    let mut field: usize = 1;
-    while field < end {
-        if bitmap::has_field(maps, field) {
-            match field_read::read_field(&message[at..], field) {
-                FieldRead::Refused(number) => {
-                    return FieldsRead::Refused(Refusal {
-                        number,
-                        field,
-                        position: at,
-                    });
-                }
-                FieldRead::Content { start, length } => {
-                    at = at + (start + length);
-                    field += 1;
-                }
+    let mut i: usize = 0;
+    while i < fields.len() {
+        let field = octets::wide(fields[i]);
+        match field_read::read_field(&message[at..], field, table) {
+            FieldRead::Refused(number) => {
+                return FieldsRead::Refused(Refusal {
+                    number,
+                    field,
+                    position: at,
+                });
             }
-        } else {
-            field += 1;
+            FieldRead::Content { start, length } => {
+                at = at + (start + length);
+                i += 1;
+            }
         }
     }
     FieldsRead::Used(at)
 }
 
 // Writes the notes of a message that is known to be good.
-fn write_notes(message: &[u8], bitmaps: usize, used: usize, notes: &mut [u8])
+fn write_notes(
+    message: &[u8],
+    bitmaps: usize,
+    used: usize,
+    fields: &[u8],
+    table: &[u16],
+    notes: &mut [u8],
+)
     requires { ⌜ bitmaps ≤ 3 ⌝ }
     requires { ⌜ 4 + 8 * bitmaps ≤ length (now message) ⌝ }
+    requires { ⌜ now fields ≡ fieldsOf (mapsOf (now message) bitmaps) bitmaps ⌝ }
     requires { ⌜ notesRoom ≤ length (now notes) ⌝ }
-    requires { ⌜ readBody house (now message) bitmaps ≡ FieldsRead.Used used ⌝ }
-    ensures { λ _. ⌜ now (notes .exit) ≡ lay (notesOf (readingWith house (now (message .entry)) bitmaps) used) (now (notes .entry)) ⌝ }
+    requires { ⌜ readBody (decoded (now table)) (now message) bitmaps ≡ FieldsRead.Used used ⌝ }
+    ensures { λ _. ⌜ now (notes .exit) ≡ lay (notesOf (readingWith (decoded (now (table .entry))) (now (message .entry)) bitmaps) used) (now (notes .entry)) ⌝ }
 {
     message_notes::put_head(&message[..4], bitmaps, notes);
-    let written = write_fields(message, bitmaps, &mut notes[message_notes::HEAD_SIZE..]);
+    let written = write_fields(
+        message,
+        4 + 8 * bitmaps,
+        fields,
+        table,
+        &mut notes[message_notes::HEAD_SIZE..],
+    );
     let end = message_notes::HEAD_SIZE + written;
     message_notes::put_end(used, &mut notes[end..]);
 }
 
 // Writes a note for each field, one behind the other, and answers how many bytes they take. The message is known to be good, and no
 // content is looked at again.
-fn write_fields(message: &[u8], bitmaps: usize, notes: &mut [u8]) -> usize
-    requires { ⌜ bitmaps ≤ 3 ⌝ }
-    requires { ⌜ 4 + 8 * bitmaps ≤ length (now message) ⌝ }
-    requires { ⌜ 190 * fieldNoteSize ≤ length (now notes) ⌝ }
-    requires { ⌜ ((u : ℕ) × (readBody house (now message) bitmaps ≡ FieldsRead.Used u)) ⌝ }
-    ensures size { λ r. ⌜ r ≡ length (fieldNotes (readingWith house (now (message .entry)) bitmaps .entries)) ⌝ }
-    ensures writes { λ _. ⌜ now (notes .exit) ≡ lay (fieldNotes (readingWith house (now (message .entry)) bitmaps .entries)) (now (notes .entry)) ⌝ }
+fn write_fields(
+    message: &[u8],
+    start: usize,
+    fields: &[u8],
+    table: &[u16],
+    notes: &mut [u8],
+) -> usize
+    requires { ⌜ start ≤ length (now message) ⌝ }
+    requires { ⌜ length (now fields) * fieldNoteSize ≤ length (now notes) ⌝ }
+    requires { ⌜ ((u : ℕ) × (readFields (decoded (now table)) start (now fields) (drop start (now message)) ≡ FieldsRead.Used u)) ⌝ }
+    ensures size { λ r. ⌜ r ≡ length (fieldNotes (entriesOf (decoded (now (table .entry))) start (now (fields .entry)) (drop start (now (message .entry))))) ⌝ }
+    ensures writes { λ _. ⌜ now (notes .exit) ≡ lay (fieldNotes (entriesOf (decoded (now (table .entry))) start (now (fields .entry)) (drop start (now (message .entry))))) (now (notes .entry)) ⌝ }
 {
-    let start = 4 + 8 * bitmaps;
-    let end = 64 * bitmaps + 1;
-    let maps = &message[4..start];
     let mut at = start;
     let mut written: usize = 0;
-    let mut field: usize = 1;
-    while field < end {
-        if bitmap::has_field(maps, field) {
-            match field_read::place_field(&message[at..], field) {
-                FieldRead::Refused(_) => {
-                    return written;
-                }
-                FieldRead::Content { start, length } => {
-                    message_notes::put_field(field, at + start, length, &mut notes[written..]);
-                    at = at + (start + length);
-                    written += message_notes::FIELD_NOTE_SIZE;
-                    field += 1;
-                }
+    let mut i: usize = 0;
+    while i < fields.len() {
+        let field = octets::wide(fields[i]);
+        match field_read::place_field(&message[at..], field, table) {
+            FieldRead::Refused(_) => {
+                return written;
             }
-        } else {
-            field += 1;
+            FieldRead::Content { start, length } => {
+                message_notes::put_field(field, at + start, length, &mut notes[written..]);
+                at = at + (start + length);
+                written += message_notes::FIELD_NOTE_SIZE;
+                i += 1;
+            }
         }
     }
     written

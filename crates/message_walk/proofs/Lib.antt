@@ -6,3 +6,4 @@ pub mod Steps
 pub mod Weaker
 pub mod Written
 pub mod Answered
+pub mod Tables

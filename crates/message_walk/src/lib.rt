@@ -6,6 +6,7 @@ ghost use Prim.Native.Nat.{_+_, _≤_};
 ghost use lib.ListN.{length};
 ghost use lib.Dec.{leb};
 ghost use Rattle.field_table.specs.House.{house};
+ghost use Rattle.field_table.specs.Codes.{decoded};
 ghost use Rattle.message_walk.specs.Walk.{headNumber, countIn, numberAllowed, judgedField, judged};
 ghost use Rattle.message_walk.specs.Answers.{testOf, walkedBy, endedBy};
 
@@ -37,8 +38,8 @@ pub enum Walked {
 }
 
 // Walks the notes from the head to the end note.
-pub fn walk(values: &[u8], notes: &[u8], rule: Rule) -> Walked
-    ensures { λ r. ⌜ r ≡ walkedBy house rule (now (values .entry)) (now (notes .entry)) ⌝ }
+pub fn walk(values: &[u8], notes: &[u8], rule: Rule, table: &[u16]) -> Walked
+    ensures { λ r. ⌜ r ≡ walkedBy (decoded (now (table .entry))) rule (now (values .entry)) (now (notes .entry)) ⌝ }
 {
     let fault = head_fault(notes);
     if fault != 0 {
@@ -48,7 +49,15 @@ pub fn walk(values: &[u8], notes: &[u8], rule: Rule) -> Walked
             position: 0,
         });
     }
-    walk_fields(values, notes, rule)
+    walk_fields(values, notes, rule, table)
+}
+
+// The same where nothing is asked of contents: no table is needed.
+pub fn walk_any(values: &[u8], notes: &[u8]) -> Walked
+    ensures { λ r. ⌜ r ≡ walkedBy house Rule.Any (now (values .entry)) (now (notes .entry)) ⌝ }
+{
+    let none = [0u16; 1];
+    walk(values, notes, Rule::Any, &none)
 }
 
 // What is wrong with the head: 9, then 3; 0 where nothing is.
@@ -80,15 +89,15 @@ pub fn count_in(notes: &[u8]) -> usize
     octets::wide(notes[5])
 }
 
-fn walk_fields(values: &[u8], notes: &[u8], rule: Rule) -> Walked
+fn walk_fields(values: &[u8], notes: &[u8], rule: Rule, table: &[u16]) -> Walked
     requires { ⌜ 6 ≤ length (now notes) ⌝ }
-    ensures { λ r. ⌜ r ≡ endedBy house rule (now (values .entry)) (now (notes .entry)) ⌝ }
+    ensures { λ r. ⌜ r ≡ endedBy (decoded (now (table .entry))) rule (now (values .entry)) (now (notes .entry)) ⌝ }
 {
     let count = count_in(notes);
     let mut last: usize = 0;
     let mut at = message_notes::HEAD_SIZE;
     while at <= notes.len() {
-        match judge(values, &notes[at..], count, last, rule) {
+        match judge(values, &notes[at..], count, last, rule, table) {
             Judged::Refused { number, field } => {
                 return Walked::Refused(Refusal {
                     number,
@@ -117,8 +126,15 @@ fn walk_fields(values: &[u8], notes: &[u8], rule: Rule) -> Walked
 }
 
 // Judges the note at the front of rest, where last is the number of the field before it.
-pub fn judge(values: &[u8], rest: &[u8], count: usize, last: usize, rule: Rule) -> Judged
-    ensures { λ r. ⌜ r ≡ judged (testOf house rule) (now (values .entry)) count last (now (rest .entry)) ⌝ }
+pub fn judge(
+    values: &[u8],
+    rest: &[u8],
+    count: usize,
+    last: usize,
+    rule: Rule,
+    table: &[u16],
+) -> Judged
+    ensures { λ r. ⌜ r ≡ judged (testOf (decoded (now (table .entry))) rule) (now (values .entry)) count last (now (rest .entry)) ⌝ }
 {
     match message_notes::read_note(rest) {
         Note::Malformed => Judged::Refused {
@@ -130,8 +146,16 @@ pub fn judge(values: &[u8], rest: &[u8], count: usize, last: usize, rule: Rule) 
             number,
             offset,
             length,
-        } => judge_field(values, count, last, number, offset, length, rule),
+        } => judge_field(values, count, last, number, offset, length, rule, table),
     }
+}
+
+// The same where nothing is asked of contents.
+pub fn judge_any(values: &[u8], rest: &[u8], count: usize, last: usize) -> Judged
+    ensures { λ r. ⌜ r ≡ judged (testOf house Rule.Any) (now (values .entry)) count last (now (rest .entry)) ⌝ }
+{
+    let none = [0u16; 1];
+    judge(values, rest, count, last, Rule::Any, &none)
 }
 
 // Judges the note of a field: 10, 11, then what the rule asks.
@@ -143,8 +167,9 @@ fn judge_field(
     offset: usize,
     length: usize,
     rule: Rule,
+    table: &[u16],
 ) -> Judged
-    ensures { λ r. ⌜ r ≡ judgedField (testOf house rule) (now (values .entry)) count last number offset length ⌝ }
+    ensures { λ r. ⌜ r ≡ judgedField (testOf (decoded (now (table .entry))) rule) (now (values .entry)) count last number offset length ⌝ }
 {
     if !is_number_allowed(count, last, number) {
         return Judged::Refused {
@@ -159,7 +184,7 @@ fn judge_field(
         };
     }
     let end = offset + length;
-    let fault = fault_of(rule, number, &values[offset..end]);
+    let fault = fault_of(rule, number, &values[offset..end], table);
     if fault != 0 {
         return Judged::Refused {
             number: fault,
@@ -197,12 +222,12 @@ fn is_inside(size: usize, offset: usize, length: usize) -> bool
 }
 
 // What the rule finds wrong with a content: 12 or 8; 0 where nothing is.
-fn fault_of(rule: Rule, number: usize, content: &[u8]) -> u8
-    ensures { λ r. ⌜ r ≡ testOf house rule number (now (content .entry)) ⌝ }
+fn fault_of(rule: Rule, number: usize, content: &[u8], table: &[u16]) -> u8
+    ensures { λ r. ⌜ r ≡ testOf (decoded (now (table .entry))) rule number (now (content .entry)) ⌝ }
 {
     match rule {
         Rule::Any => 0,
-        Rule::Exact => field_write::exact_fault(number, content),
-        Rule::Clean => field_write::clean_fault(number, content),
+        Rule::Exact => field_write::exact_fault(number, content, table),
+        Rule::Clean => field_write::clean_fault(number, content, table),
     }
 }

@@ -18,7 +18,7 @@ use Rattle.field_write.specs.Fields.{isShort, missing, fieldBytes, fieldInto, w
 use Rattle.field_write.proofs.Allowed.{clean-passed}
 use Rattle.field_write.proofs.Cleaned.{written-size, clean-size}
 use Rattle.field_write.proofs.Padding.{into-fits}
-use Rattle.field_table.proofs.Rows.{Small}
+use Rattle.field_table.proofs.Rows.{Bounded}
 use Rattle.bitmap.specs.Bitmaps.{isField, noFields, withField, setOf, setFrom}
 use Rattle.bitmap.proofs.Sets.{set-is}
 use Rattle.bitmap.proofs.Maps.{field-high}
@@ -89,7 +89,7 @@ pub choice-is : (t : Table) (k j : Choice) (f z : ℕ) (flag : Bool) → k ≡ j
 choice-is t k j f z flag e h = h ∙ ap (λ (x : Choice). isChosen t x f z) (sym e)
 
 -- a content that is not too long takes a bounded room
-written-most : (t : Table) (f : ℕ) (s : List ℕ) → Small t → cleanFault t f s ≡ 0 → writtenSize t f (length s) ≤ 2001
+written-most : (t : Table) (f : ℕ) (s : List ℕ) → Bounded t → cleanFault t f s ≡ 0 → writtenSize t f (length s) ≤ 2049
 unfolding writtenSize missing
 written-most t f s small e =
     let m = clean-passed t f s e .most in
@@ -179,7 +179,7 @@ module _ {t : Table} {k : Choice} {v n s : List ℕ} where
   choosing-done c = sym (sym (chosen-set t k v n) ∙ c .whole ∙ ap (setFrom s) (chosen-none t k))
 
 -- A field that passes the cleaning writer's test: its size as the code has it, and bounds.
-module _ {t : Table} (small : Small t) {v : List ℕ} {m last f a z : ℕ} (g : Good (testOf t Clean) v m last f a z) where
+module _ {t : Table} (small : Bounded t) {v : List ℕ} {m last f a z : ℕ} (g : Good (testOf t Clean) v m last f a z) where
   abbrev bytes : List ℕ
   bytes = fieldBytes t f (contentOf v a z)
 
@@ -194,7 +194,7 @@ module _ {t : Table} (small : Small t) {v : List ℕ} {m last f a z : ℕ} (g : 
   good-size =
       sym (ap (λ (q : ℕ). cond (leb q longest) (writtenSize t f q) 0) (sym content-long) ∙ clean-size t f (contentOf v a z) small good-clean)
 
-  good-small : length bytes ≤ 2001
+  good-small : length bytes ≤ 2049
   good-small = omega (arith, written-size t f (contentOf v a z), written-most t f (contentOf v a z) small good-clean)
 
   good-above : last < f
@@ -204,8 +204,8 @@ module _ {t : Table} (small : Small t) {v : List ℕ} {m last f a z : ℕ} (g : 
   good-most : f ≤ 192
   good-most = field-high f (allowed-field m last f (g .allowed))
 
--- the fields that pass take at most 2001 bytes for each number there is
-body-few : (t : Table) → Small t → (v : List ℕ) (m k last : ℕ) (s : List ℕ) → last ≤ 192 → length (bodyOf t v (passed (testOf t Clean) v m k last s)) + 2001 * last ≤ 2001 * 192
+-- the fields that pass take at most 2049 bytes for each number there is
+body-few : (t : Table) → Bounded t → (v : List ℕ) (m k last : ℕ) (s : List ℕ) → last ≤ 192 → length (bodyOf t v (passed (testOf t Clean) v m k last s)) + 2049 * last ≤ 2049 * 192
 unfolding bodyOf passed
 body-few t small v m zero last s h = omega arith
 body-few t small v m (suc k) last s h =
@@ -218,7 +218,7 @@ body-few t small v m (suc k) last s h =
     rw (passed-more (testOf t Clean) v m k last s f a z e)
     (omega (arith, length-append (fieldBytes t f (contentOf v a z)) (bodyOf t v (passed (testOf t Clean) v m k f (drop fieldNoteSize s))), good-small small g, good-above small g, rest)))
 
-body-small : (t : Table) → Small t → (v n : List ℕ) → length (bodyOf t v (entriesIn (testOf t Clean) v n)) ≤ 400000
+body-small : (t : Table) → Bounded t → (v n : List ℕ) → length (bodyOf t v (entriesIn (testOf t Clean) v n)) ≤ 400000
 unfolding entriesIn
 body-small t small v n = omega (arith, body-few t small v (countIn n) (length n) 0 (drop headSize n) (omega arith))
 
@@ -229,7 +229,7 @@ pub record Measuring (t : Table) (v n : List ℕ) (total : ℕ) (es : List Entry
 pub measuring-first : {t : Table} {v n : List ℕ} → Measuring t v n 0 (entriesIn (testOf t Clean) v n)
 measuring-first = record { whole = omega arith }
 
-module _ {t : Table} (small : Small t) {v n : List ℕ} {total : ℕ} where
+module _ {t : Table} (small : Bounded t) {v n : List ℕ} {total : ℕ} where
   pub measuring-done : Measuring t v n total [] → (total ≡ length (bodyOf t v (entriesIn (testOf t Clean) v n))) × (total ≤ 400000)
   unfolding bodyOf
   measuring-done c = (omega (arith, c .whole), omega (arith, c .whole, body-small t small v n))
@@ -254,7 +254,7 @@ module _ {t : Table} {v n d o : List ℕ} {w : ℕ} where
   unfolding bodyOf
   writing-done c = written-end (bodyOf t v (entriesIn (testOf t Clean) v n)) d o [] w (c .written) refl .1
 
-  module _ (small : Small t) {m last f a z size : ℕ} {es : List Entry} (c : Writing t v n d o w (entry f a z ∷ es)) (g : Good (testOf t Clean) v m last f a z) (sized : size ≡ cond (leb z longest) (writtenSize t f z) 0) (room : length (bodyOf t v (entriesIn (testOf t Clean) v n)) ≤ length d) where
+  module _ (small : Bounded t) {m last f a z size : ℕ} {es : List Entry} (c : Writing t v n d o w (entry f a z ∷ es)) (g : Good (testOf t Clean) v m last f a z) (sized : size ≡ cond (leb z longest) (writtenSize t f z) 0) (room : length (bodyOf t v (entriesIn (testOf t Clean) v n)) ≤ length d) where
     pub writing-fits : w + size ≤ length o
     unfolding bodyOf
     writing-fits =

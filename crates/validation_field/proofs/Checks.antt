@@ -1,6 +1,6 @@
 -- The ends of the field check, with the facts as its code has them. Assumes nothing.
 use Prim.Native.Nat.{ℕ}
-use mathlib.Core.Path.{_≡_, _∙_}
+use mathlib.Core.Path.{_≡_, ap, _∙_}
 use mathlib.Core.Bool.{Bool, true, false, not}
 use mathlib.Core.List.{List}
 use lib.ListN.{length}
@@ -61,3 +61,7 @@ module _ (t : Table) (f : ℕ) (s : List ℕ) (known : Bool) (known-is : known �
       pub field-value : not fits ≡ false → (n : ℕ) → n ≡ firstFailing (valueTests f s) → n ≡ fieldFault t f s
       unfolding fieldFault fieldTests
       field-value u n e = rw (← known-is, not-false known k, ← class-is, ← kept-is, not-false kept c, ← fits-is, not-false fits u) e
+
+-- by the table that are lent
+pub fault-as : (t u : Table) (f : ℕ) (s : List ℕ) (r : ℕ) → t ≡ u → r ≡ fieldFault t f s → r ≡ fieldFault u f s
+fault-as t u f s r same e = e ∙ ap (λ (x : Table). fieldFault x f s) same

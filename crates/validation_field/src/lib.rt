@@ -3,6 +3,7 @@ use refusal::Checked;
 ghost use mathlib.Core.Path.{_≡_};
 ghost use Rattle.refusal.specs.Refusals.{checked};
 ghost use Rattle.field_table.specs.House.{house};
+ghost use Rattle.field_table.specs.Codes.{decoded};
 ghost use Rattle.validation_field.specs.Checks.{firstFailing, isAmountField, valueTests, fieldFault, isCurrency};
 
 // Checks the content of field number: number, class, length, and for some fields the value.
@@ -16,13 +17,21 @@ pub fn check_field(number: usize, content: &[u8]) -> Checked
 pub fn field_fault(number: usize, content: &[u8]) -> u8
     ensures { λ r. ⌜ r ≡ fieldFault house number (now (content .entry)) ⌝ }
 {
+    let table = field_table::house_table();
+    fault_by(number, content, &table)
+}
+
+// The same by the table lent.
+pub fn fault_by(number: usize, content: &[u8], table: &[u16]) -> u8
+    ensures { λ r. ⌜ r ≡ fieldFault (decoded (now (table .entry))) number (now (content .entry)) ⌝ }
+{
     if !bitmap::is_field(number) {
         return refusal::NUMBER_NOT_ALLOWED;
     }
-    if !field_class::is_of_class(field_table::class_of(number), content) {
+    if !field_class::is_of_class(field_table::class_in(table, number), content) {
         return refusal::CLASS_BROKEN;
     }
-    if !field_write::is_allowed_length(number, content.len()) {
+    if !field_write::is_allowed_length(number, content.len(), table) {
         return refusal::LENGTH_NOT_ALLOWED;
     }
     value_fault(number, content)

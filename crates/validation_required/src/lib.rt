@@ -1,6 +1,5 @@
 // Required fields, by the MTI. 01, "Checks and conversions".
 use message_lookup::Found;
-use message_walk::Rule;
 use message_walk::Walked;
 use refusal::Checked;
 use refusal::Refusal;
@@ -14,7 +13,7 @@ ghost use Rattle.validation_required.specs.Required.{isCardRequest, isRe
 pub fn check_required(values: &[u8], notes: &[u8]) -> Checked
     ensures { λ r. ⌜ r ≡ requiredIn (now (values .entry)) (now (notes .entry)) ⌝ }
 {
-    match message_walk::walk(values, notes, Rule::Any) {
+    match message_walk::walk_any(values, notes) {
         Walked::Refused(refusal) => Checked::Refused(refusal),
         Walked::Ended { at: _, said: _ } => answer_missing(first_missing(values, notes)),
     }

@@ -4,14 +4,14 @@ use borrow.Author.Needs.{needs}
 use Rattle.field_write.proofs.clean_fault.Statement.{statement}
 use Rattle.field_write.proofs.clean_fault.Tie as tie
 
-most-of-requires : tie.Need-most-of-requires
-most-of-requires c κs = search needs
+most-in-requires : tie.Need-most-in-requires
+most-in-requires c κs = search needs
 
 returns : tie.Need-returns
 returns c = search (clean-long, needs)
 
-class-of-requires : tie.Need-class-of-requires
-class-of-requires c κs = search needs
+class-in-requires : tie.Need-class-in-requires
+class-in-requires c κs = search needs
 
 text-fault-requires : tie.Need-text-fault-requires
 text-fault-requires c κs = search needs
@@ -21,4 +21,4 @@ returns-2 c = search (clean-text, needs)
 
 pub clean-fault-spec : {M : Type 1} → statement M
 clean-fault-spec =
-    tie.close (tie.spec most-of-requires returns class-of-requires text-fault-requires returns-2)
+    tie.close (tie.spec most-in-requires returns class-in-requires text-fault-requires returns-2)

@@ -10,8 +10,8 @@ is-allowed-length-requires c κs = search needs
 returns : tie.Need-returns
 returns c = search (exact-long, needs)
 
-class-of-requires : tie.Need-class-of-requires
-class-of-requires c κs = search needs
+class-in-requires : tie.Need-class-in-requires
+class-in-requires c κs = search needs
 
 text-fault-requires : tie.Need-text-fault-requires
 text-fault-requires c κs = search needs
@@ -22,4 +22,4 @@ returns-2 c = search (exact-text, needs)
 pub exact-fault-spec : {M : Type 1} → statement M
 exact-fault-spec =
     tie.close
-    (tie.spec is-allowed-length-requires returns class-of-requires text-fault-requires returns-2)
+    (tie.spec is-allowed-length-requires returns class-in-requires text-fault-requires returns-2)

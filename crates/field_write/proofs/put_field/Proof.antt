@@ -4,20 +4,20 @@ use borrow.Author.Needs.{needs}
 use Rattle.field_write.proofs.put_field.Statement.{statement}
 use Rattle.field_write.proofs.put_field.Tie as tie
 
-most-of-requires : tie.Need-most-of-requires
-most-of-requires c κs = search needs
+most-in-requires : tie.Need-most-in-requires
+most-in-requires c κs = search needs
 
 returns : tie.Need-returns
 returns c = search (put-long, needs)
 
-width-of-requires : tie.Need-width-of-requires
-width-of-requires c κs = search needs
+width-in-requires : tie.Need-width-in-requires
+width-in-requires c κs = search needs
 
 missing-requires : tie.Need-missing-requires
 missing-requires c κs = search needs
 
-class-of-requires : tie.Need-class-of-requires
-class-of-requires c κs = search needs
+class-in-requires : tie.Need-class-in-requires
+class-in-requires c κs = search needs
 
 put-padded-requires : tie.Need-put-padded-requires
 put-padded-requires c κs = search needs
@@ -41,11 +41,11 @@ pub put-field-spec : {M : Type 1} → statement M
 put-field-spec =
     tie.close
     (tie.spec
-    most-of-requires
+    most-in-requires
     returns
-    width-of-requires
+    width-in-requires
     missing-requires
-    class-of-requires
+    class-in-requires
     put-padded-requires
     same-length
     returns-2

@@ -21,17 +21,17 @@ count-in-requires c κs = search needs
 loop-holds : tie.Need-loop-holds Inv-loop μ-loop
 loop-holds c = (length (c .before .before .before .args .notes .now), finding-first _ _ _ _ (c .before .before .before .pre))
 
-sub-judge : tie.Need-sub-judge Inv-loop μ-loop
-sub-judge c = search needs
+sub-judge-any : tie.Need-sub-judge-any Inv-loop μ-loop
+sub-judge-any c = search needs
 
-part-judge-start : tie.Need-part-judge-start Inv-loop μ-loop
-part-judge-start c = search needs
+part-judge-any-start : tie.Need-part-judge-any-start Inv-loop μ-loop
+part-judge-any-start c = search needs
 
-part-judge-end : tie.Need-part-judge-end Inv-loop μ-loop
-part-judge-end c = search needs
+part-judge-any-end : tie.Need-part-judge-any-end Inv-loop μ-loop
+part-judge-any-end c = search needs
 
-judge-requires : tie.Need-judge-requires Inv-loop μ-loop
-judge-requires c κs = search needs
+judge-any-requires : tie.Need-judge-any-requires Inv-loop μ-loop
+judge-any-requires c κs = search needs
 
 enum-told : tie.Need-enum-told Inv-loop μ-loop
 enum-told c = search needs
@@ -47,7 +47,7 @@ returns c =
     let v = a .values .now in
     let n = a .notes .now in
     let w = l .loop .inv .1 in
-    let e = judged-any house v _ _ _ _ _ (j .judge .ensures) (l .before .count-in .ensures) in
+    let e = judged-any house v _ _ _ _ _ (j .judge-any .ensures) (l .before .count-in .ensures) in
     finding-refused v n (a .number) (a .end) _ _ _ w _ e _ _ _ (c .before .enum-told .given .1) (c .absent .ensures)
 
 enum-told-2 : tie.Need-enum-told-2 Inv-loop μ-loop
@@ -64,7 +64,7 @@ returns-2 c =
     let v = a .values .now in
     let n = a .notes .now in
     let w = l .loop .inv .1 in
-    let e = judged-any house v _ _ _ _ _ (j .judge .ensures) (l .before .count-in .ensures) in
+    let e = judged-any house v _ _ _ _ _ (j .judge-any .ensures) (l .before .count-in .ensures) in
     finding-end v n (a .number) (a .end) _ _ _ w _ e _ _ (c .before .enum-told2 .given .1) (c .absent2 .ensures)
 
 enum-known-here : tie.Need-enum-known-here Inv-loop μ-loop
@@ -78,7 +78,7 @@ returns-3 c =
     let v = a .values .now in
     let n = a .notes .now in
     let w = l .loop .inv .1 in
-    let e = judged-any house v _ _ _ _ _ (j .judge .ensures) (l .before .count-in .ensures) in
+    let e = judged-any house v _ _ _ _ _ (j .judge-any .ensures) (l .before .count-in .ensures) in
     finding-here v n (a .number) (a .end) _ _ _ w _ e _ _ _ (c .before .before .here .given .1) (c .if1 .taken)
 
 add-at : tie.Need-add-at Inv-loop μ-loop
@@ -89,7 +89,7 @@ add-at c =
     let v = a .values .now in
     let n = a .notes .now in
     let w = l .loop .inv .1 in
-    let e = judged-any house v _ _ _ _ _ (j .judge .ensures) (l .before .count-in .ensures) in
+    let e = judged-any house v _ _ _ _ _ (j .judge-any .ensures) (l .before .count-in .ensures) in
     omega (arith, finding-room v n (a .number) (a .end) _ _ _ w _ e _ _ _ (c .before .before .here .given .1))
 
 loop-less : tie.Need-loop-less Inv-loop μ-loop
@@ -100,7 +100,7 @@ loop-less c =
     let v = a .values .now in
     let n = a .notes .now in
     let w = l .loop .inv .1 in
-    let e = judged-any house v _ _ _ _ _ (j .judge .ensures) (l .before .count-in .ensures) in
+    let e = judged-any house v _ _ _ _ _ (j .judge-any .ensures) (l .before .count-in .ensures) in
     omega (arith, finding-room v n (a .number) (a .end) _ _ _ w _ e _ _ _ (c .before .before .here .given .1))
 
 loop-again : tie.Need-loop-again Inv-loop μ-loop
@@ -111,7 +111,7 @@ loop-again c =
     let v = a .values .now in
     let n = a .notes .now in
     let w = l .loop .inv .1 in
-    let e = judged-any house v _ _ _ _ _ (j .judge .ensures) (l .before .count-in .ensures) in
+    let e = judged-any house v _ _ _ _ _ (j .judge-any .ensures) (l .before .count-in .ensures) in
     (l .loop .inv .0 - 1, finding-next v n (a .number) (a .end) _ _ _ w _ e _ _ _ (c .before .before .here .given .1) (c .if1 .left))
 
 absent-requires-3 : tie.Need-absent-requires-3 Inv-loop μ-loop
@@ -128,10 +128,10 @@ find-spec =
     μ-loop
     count-in-requires
     loop-holds
-    sub-judge
-    part-judge-start
-    part-judge-end
-    judge-requires
+    sub-judge-any
+    part-judge-any-start
+    part-judge-any-end
+    judge-any-requires
     enum-told
     absent-requires
     returns

@@ -7,8 +7,8 @@ use borrow.Author.Needs.{needs}
 use Rattle.message_lookup.proofs.look_up.Statement.{statement}
 use Rattle.message_lookup.proofs.look_up.Tie as tie
 
-walk-requires : tie.Need-walk-requires
-walk-requires c κs = search needs
+walk-any-requires : tie.Need-walk-any-requires
+walk-any-requires c κs = search needs
 
 enum-known-refusal : tie.Need-enum-known-refusal
 enum-known-refusal c = search needs
@@ -17,15 +17,15 @@ enum-known-at : tie.Need-enum-known-at
 enum-known-at c = search needs
 
 find-requires : tie.Need-find-requires
-find-requires c κs = any-head _ house _ _ (c .before .before .before .walk .ensures) _ _ (c .before .at .given .1)
+find-requires c κs = any-head _ house _ _ (c .before .before .before .walk-any .ensures) _ _ (c .before .at .given .1)
 
 returns : tie.Need-returns
-returns c = looked-refused house _ _ _ _ (c .before .before .before .walk .ensures) _ (c .before .refusal .given .1)
+returns c = looked-refused house _ _ _ _ (c .before .before .before .walk-any .ensures) _ (c .before .refusal .given .1)
 
 returns-2 : tie.Need-returns-2
-returns-2 c = let k = c .before in looked-found house _ _ _ _ (k .before .before .before .walk .ensures) _ _ _ (k .before .at .given .1) (c .find .ensures)
+returns-2 c = let k = c .before in looked-found house _ _ _ _ (k .before .before .before .walk-any .ensures) _ _ _ (k .before .at .given .1) (c .find .ensures)
 
 pub look-up-spec : {M : Type 1} → statement M
 look-up-spec =
     tie.close
-    (tie.spec walk-requires enum-known-refusal enum-known-at find-requires returns returns-2)
+    (tie.spec walk-any-requires enum-known-refusal enum-known-at find-requires returns returns-2)

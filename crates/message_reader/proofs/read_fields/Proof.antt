@@ -1,44 +1,27 @@
--- Reading from the start is reading what is left from the place and the number that the loop has come to (Turns).
-use Prim.Native.Nat.{_+_, _*_, _-_}
-use Rattle.field_table.specs.House.{house}
-use Rattle.message_reader.proofs.Turns.{Met, met, passed-over, Scanned, scan-first, scan-skip, scan-refused, scan-within, scan-read, scan-end}
+-- Reading from the start is reading what is left from the place and the field that the loop has come to (Turns).
+use Prim.Native.Nat.{_-_}
+use lib.ListN.{length}
+use Rattle.field_table.specs.Codes.{decoded}
+use Rattle.message_reader.proofs.Turns.{Met, met, Scanned, scan-first, scan-refused, scan-within, scan-read, scan-end}
 use borrow.Author.Needs.{needs}
 use native.Mathlib.Omega.{arith}
 use Rattle.message_reader.proofs.read_fields.Statement.{statement}
 use Rattle.message_reader.proofs.read_fields.Tie as tie
 
 abbrev Inv-loop : tie.InvT-loop
-Inv-loop message bitmaps start end maps at₀ field₀ at field = Scanned house message bitmaps at field
+Inv-loop message start fields table at₀ i₀ at i = Scanned (decoded table) message fields start at i
 
 abbrev μ-loop : tie.MeasureT-loop
-μ-loop message bitmaps start end maps at₀ field₀ at field = 64 * bitmaps + 1 - field
-
-mul-start : tie.Need-mul-start Inv-loop μ-loop
-mul-start c = search needs
-
-add-start : tie.Need-add-start Inv-loop μ-loop
-add-start c = search needs
-
-mul-end : tie.Need-mul-end Inv-loop μ-loop
-mul-end c = search needs
-
-add-end : tie.Need-add-end Inv-loop μ-loop
-add-end c = search needs
-
-sub-maps : tie.Need-sub-maps Inv-loop μ-loop
-sub-maps c = search needs
-
-part-maps-start : tie.Need-part-maps-start Inv-loop μ-loop
-part-maps-start c = search needs
-
-part-maps-end : tie.Need-part-maps-end Inv-loop μ-loop
-part-maps-end c = search needs
+μ-loop message start fields table at₀ i₀ at i = length fields - i
 
 loop-holds : tie.Need-loop-holds Inv-loop μ-loop
-loop-holds c = scan-first (c .before .before .pre .1)
+loop-holds c = scan-first (c .before .before .before .pre)
 
-has-field-requires : tie.Need-has-field-requires Inv-loop μ-loop
-has-field-requires c κs = search needs
+shared-slice-read-wide : tie.Need-shared-slice-read-wide Inv-loop μ-loop
+shared-slice-read-wide c = search needs
+
+wide-requires : tie.Need-wide-requires Inv-loop μ-loop
+wide-requires c κs = search needs
 
 sub-read-field : tie.Need-sub-read-field Inv-loop μ-loop
 sub-read-field c = search needs
@@ -55,17 +38,15 @@ read-field-requires c κs = search needs
 enum-known-number : tie.Need-enum-known-number Inv-loop μ-loop
 enum-known-number c = search needs
 
-abbrev start : tie.At-loop Inv-loop μ-loop → tie.Start Inv-loop μ-loop
-start l = l .before .before .before
-
 -- the turn of the loop in which a field was met and read
 abbrev here : tie.After-read-field Inv-loop μ-loop → tie.At-loop Inv-loop μ-loop
 here c = c .before .before .before .before .before
 
-met-at : (c : tie.After-read-field Inv-loop μ-loop) → Met house (start (here c) .args .message .now) (start (here c) .args .bitmaps) (here c .loop .at) (here c .loop .field) (c .read-field .result)
-met-at c =
-    let present = c .before .before in
-    met house _ _ _ _ _ _ (present .before .before .loop-test .taken) (present .before .has-field .ensures) (present .if1 .taken) (c .read-field .ensures)
+abbrev start : tie.After-read-field Inv-loop μ-loop → tie.Start Inv-loop μ-loop
+start c = here c .before .before .before .before
+
+met-at : (c : tie.After-read-field Inv-loop μ-loop) → Met (decoded (start c .args .table .now)) (start c .args .message .now) (start c .args .fields .now) (here c .loop .at) (here c .loop .i) (c .before .before .wide .result) (c .read-field .result)
+met-at c = met _ _ _ _ _ _ _ (c .before .before .before .before .loop-test .taken) (c .before .before .wide .ensures .0) (c .read-field .ensures)
 
 returns : tie.Need-returns Inv-loop μ-loop
 returns c =
@@ -85,29 +66,16 @@ add-at-2 c =
     let k = c .before .before .before in
     omega (arith, scan-within (here k .loop .inv) (met-at k) (c .before .start .given .1))
 
-add-field : tie.Need-add-field Inv-loop μ-loop
-add-field c = search needs
+add-i : tie.Need-add-i Inv-loop μ-loop
+add-i c = search needs
 
 loop-less : tie.Need-loop-less Inv-loop μ-loop
-loop-less c =
-    let i = c .before .before .before .before .before .before .before in
-    omega (arith, i .loop-test .taken)
+loop-less c = omega (arith, c .before .before .before .before .before .before .before .loop-test .taken)
 
 loop-again : tie.Need-loop-again Inv-loop μ-loop
 loop-again c =
     let k = c .before .before .before in
     scan-read (here k .loop .inv) (met-at k) (c .before .start .given .1)
-
-add-field-2 : tie.Need-add-field-2 Inv-loop μ-loop
-add-field-2 c = search needs
-
-loop-less-2 : tie.Need-loop-less-2 Inv-loop μ-loop
-loop-less-2 c = omega (arith, c .before .before .loop-test .taken)
-
-loop-again-2 : tie.Need-loop-again-2 Inv-loop μ-loop
-loop-again-2 c =
-    let l = c .before .before .before in
-    scan-skip (l .loop .inv) (passed-over (start l .args .message .now) _ _ _ (c .before .before .loop-test .taken) (c .before .has-field .ensures) (c .if1 .left))
 
 returns-2 : tie.Need-returns-2 Inv-loop μ-loop
 returns-2 c = scan-end (c .before .loop .inv) (c .loop-test .left)
@@ -118,15 +86,9 @@ read-fields-spec =
     (tie.spec
     Inv-loop
     μ-loop
-    mul-start
-    add-start
-    mul-end
-    add-end
-    sub-maps
-    part-maps-start
-    part-maps-end
     loop-holds
-    has-field-requires
+    shared-slice-read-wide
+    wide-requires
     sub-read-field
     part-read-field-start
     part-read-field-end
@@ -136,10 +98,7 @@ read-fields-spec =
     enum-known-start
     add-at
     add-at-2
-    add-field
+    add-i
     loop-less
     loop-again
-    add-field-2
-    loop-less-2
-    loop-again-2
     returns-2)

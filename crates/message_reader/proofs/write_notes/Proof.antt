@@ -1,18 +1,19 @@
 -- The head is laid first, then the fields behind it, then the end.
 use mathlib.Core.Path.{_≡_, sym, ap, _∙_}
 use mathlib.Core.List.{List, _++_}
-use Prim.Native.Nat.{ℕ, _+_, _≤_, _-_}
-use lib.ListN.{length, take, length-append}
+use Prim.Native.Nat.{ℕ, _+_, _*_, _≤_, _-_}
+use lib.ListN.{length, take, drop, length-append}
 use lib.Seq.{length-take-le}
 use Rattle.octets.specs.Lists.{lay}
-use Rattle.field_table.specs.House.{house}
+use Rattle.field_table.specs.Codes.{decoded}
 use mathlib.Core.List.{append-assoc}
 use Rattle.octets.proofs.Lists.{placed-fits}
 use Rattle.octets.proofs.Parts.{lay-part, placed-part}
+use Rattle.message_language.specs.Language.{Entry}
 use Rattle.message_notes.specs.Notes.{headNote, endNote, fieldNotes, notesOf}
 use Rattle.message_notes.proofs.Sizes.{head-long, end-long}
-use Rattle.message_reader.specs.Reader.{readingWith}
-use Rattle.message_reader.proofs.Noting.{notes-few}
+use Rattle.message_reader.specs.Reader.{entriesOf, readingWith}
+use Rattle.message_reader.proofs.Noting.{notes-few, body-is, entries-are, listed-few}
 use borrow.Author.Needs.{needs}
 use native.Mathlib.Omega.{arith}
 use Rattle.message_reader.proofs.write_notes.Statement.{statement}
@@ -20,7 +21,7 @@ use Rattle.message_reader.proofs.write_notes.Tie as tie
 
 -- the head is written, and then the fields; the notes stay as long as they were
 abbrev start : tie.After-put-head → tie.Start
-start c = c .before .before .before .before .before
+start c = c .before .before .before .before .before .before .before
 
 abbrev head-put : tie.After-slice-known3 → tie.After-put-head
 head-put c = c .before .before .before .before .before .before
@@ -28,13 +29,20 @@ head-put c = c .before .before .before .before .before .before
 written-at : (c : tie.After-slice-known3) → c .before .before .write-fields .result ≤ 1520
 written-at c =
     let s = start (head-put c) in
-    omega (arith, c .before .before .write-fields .ensures .0, notes-few house (s .args .message .now) (s .args .bitmaps) (s .pre .0))
+    let t = decoded (s .args .table .now) in
+    omega (arith, c .before .before .write-fields .ensures .0, ap (λ (es : List Entry). length (fieldNotes es)) (entries-are t _ _ _ (s .pre .1 .1 .0)), notes-few t (s .args .message .now) (s .args .bitmaps) (s .pre .0))
 
 slice-aggregate-put-head : tie.Need-slice-aggregate-put-head
-slice-aggregate-put-head c = sym (length-take-le 4 (c .before .before .before .args .message .now) (omega arith))
+slice-aggregate-put-head c = sym (length-take-le 4 (c .before .before .before .before .before .args .message .now) (omega arith))
 
 put-head-requires : tie.Need-put-head-requires
 put-head-requires c κs = search needs
+
+mul-write-fields : tie.Need-mul-write-fields
+mul-write-fields c = omega (arith, start (c .before .before) .pre .0)
+
+add-write-fields : tie.Need-add-write-fields
+add-write-fields c = omega (arith, start (c .before .before) .pre .0)
 
 sub-write-fields : tie.Need-sub-write-fields
 sub-write-fields c = search needs
@@ -48,16 +56,17 @@ part-write-fields-end c = search needs
 write-fields-requires : tie.Need-write-fields-requires
 write-fields-requires c κs =
     let p = start (c .before .before .before) .pre in
-    (p .0, (p .1 .0, (search needs, (_, p .1 .1 .1))))
+    let t = decoded (start (c .before .before .before) .args .table .now) in
+    (p .1 .0, (omega (arith, listed-few t _ _ _ (p .1 .1 .0) (p .0), c .write-fields-arg .given, c .before .before .notes .given, p .1 .1 .1 .0), (_, body-is t _ _ _ (p .1 .1 .0) ∙ p .1 .1 .1 .1)))
 
 add-end : tie.Need-add-end
 add-end c = omega (arith, written-at c)
 
 sub-put-end : tie.Need-sub-put-end
-sub-put-end c = omega (arith, written-at c, c .before .notes2 .given, c .before .before .before .before .before .notes .given, start (head-put c) .pre .1 .1 .0)
+sub-put-end c = omega (arith, written-at c, c .before .notes2 .given, c .before .before .before .before .before .notes .given, start (head-put c) .pre .1 .1 .1 .0)
 
 part-put-end-start : tie.Need-part-put-end-start
-part-put-end-start c = omega (arith, written-at c, c .before .notes2 .given, c .before .before .before .before .before .notes .given, start (head-put c) .pre .1 .1 .0)
+part-put-end-start c = omega (arith, written-at c, c .before .notes2 .given, c .before .before .before .before .before .notes .given, start (head-put c) .pre .1 .1 .1 .0)
 
 part-put-end-end : tie.Need-part-put-end-end
 part-put-end-end c = search needs
@@ -75,15 +84,17 @@ returns c =
     let p = start (head-put b) in
     let s = p .args .message .now in
     let d = p .args .notes .now in
+    let t = decoded (p .args .table .now) in
     let h = headNote (take 4 s) (p .args .bitmaps) in
-    let n = fieldNotes (readingWith house s (p .args .bitmaps) .entries) in
+    let n = fieldNotes (entriesOf t (4 + 8 * p .args .bitmaps) (p .args .fields .now) (drop (4 + 8 * p .args .bitmaps) s)) in
     let u = endNote (p .args .used) in
     let l : length h ≡ 6 = head-long (take 4 s) (p .args .bitmaps) ∙ omega (arith, length-take-le 4 s (omega (arith, p .pre .1 .0))) in
     let w = b .before .before .write-fields .ensures .0 in
-    let e1 = head-put b .put-head .ensures ∙ placed-fits h d 6 l (omega (arith, p .pre .1 .1 .0)) in
+    let e1 = head-put b .put-head .ensures ∙ placed-fits h d 6 l (omega (arith, p .pre .1 .1 .1 .0)) in
     let e2 = lay-part h n d _ _ 6 e1 l (b .before .before .write-fields .ensures .1) in
-    placed-part (h ++ n) u d _ _ _ e2 (omega (arith, length-append h n)) (omega (arith, end-long (p .args .used), written-at b, p .pre .1 .1 .0)) (c .before .before .put-end .ensures)
+    placed-part (h ++ n) u d _ _ _ e2 (omega (arith, length-append h n)) (omega (arith, end-long (p .args .used), written-at b, p .pre .1 .1 .1 .0)) (c .before .before .put-end .ensures)
     ∙ ap (λ (x : List ℕ). lay x d) (append-assoc h n u)
+    ∙ ap (λ (es : List Entry). lay (h ++ (fieldNotes es ++ u)) d) (entries-are t s (p .args .fields .now) (p .args .bitmaps) (p .pre .1 .1 .0))
 
 pub write-notes-spec : {M : Type 1} → statement M
 write-notes-spec =
@@ -91,6 +102,8 @@ write-notes-spec =
     (tie.spec
     slice-aggregate-put-head
     put-head-requires
+    mul-write-fields
+    add-write-fields
     sub-write-fields
     part-write-fields-start
     part-write-fields-end

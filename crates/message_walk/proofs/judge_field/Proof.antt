@@ -20,7 +20,7 @@ returns-2 : tie.Need-returns-2
 returns-2 c = search (field-outside, needs)
 
 add-end : tie.Need-add-end
-add-end c = let a = c .before .before .before .before .before .args in omega (arith, inside-of (a .offset) (a .length) _ _ (c .before .is-inside .ensures) (c .if2 .left))
+add-end c = let a = c .before .before .before .before .before .before .args in omega (arith, inside-of (a .offset) (a .length) _ _ (c .before .is-inside .ensures) (c .if2 .left))
 
 sub-fault-of : tie.Need-sub-fault-of
 sub-fault-of c = search needs

@@ -2,6 +2,7 @@
 use Prim.Native.Nat.{_+_, _-_}
 use lib.ListN.{length}
 use Rattle.field_table.specs.House.{house}
+use Rattle.field_table.specs.Codes.{decoded}
 use Rattle.message_walk.specs.Walk.{any}
 use Rattle.message_walk.proofs.Ends.{judged-any}
 use Rattle.message_write.proofs.Passing.{Loop, loop-first, Turn, turn-refused, turn-end, turn-room, turn-here, turn-next, Choosing, choosing-first, choosing-one, choosing-not, choosing-done}
@@ -11,26 +12,26 @@ use Rattle.message_write.proofs.fields_in.Statement.{statement}
 use Rattle.message_write.proofs.fields_in.Tie as tie
 
 abbrev Inv-loop : tie.InvT-loop
-Inv-loop values notes choice count fields₀ last₀ at₀ fields last at = Loop any values notes (Choosing house choice values notes (fields .bits)) at last
+Inv-loop values notes choice table count fields₀ last₀ at₀ fields last at = Loop any values notes (Choosing (decoded table) choice values notes (fields .bits)) at last
 
 abbrev μ-loop : tie.MeasureT-loop
-μ-loop values notes choice count fields₀ last₀ at₀ fields last at = length notes + 1 - at
+μ-loop values notes choice table count fields₀ last₀ at₀ fields last at = length notes + 1 - at
 
 -- the turn of the loop in which a note was judged
 abbrev start : tie.At-loop Inv-loop μ-loop → tie.Start Inv-loop μ-loop
-start l = l .before .before .before .before .before
+start l = l .before .before .before .before .before .before
 
-abbrev here : tie.After-judge Inv-loop μ-loop → tie.At-loop Inv-loop μ-loop
+abbrev here : tie.After-judge-any Inv-loop μ-loop → tie.At-loop Inv-loop μ-loop
 here c = c .before .before .before
 
 turn-at :
-    (c : tie.After-judge Inv-loop μ-loop) →
+    (c : tie.After-judge-any Inv-loop μ-loop) →
     Turn any (start (here c) .args .values .now) (start (here c) .args .notes .now)
-    (Choosing house (start (here c) .args .choice) (start (here c) .args .values .now) (start (here c) .args .notes .now) (here c .loop .fields .bits))
+    (Choosing (decoded (start (here c) .args .table .now)) (start (here c) .args .choice) (start (here c) .args .values .now) (start (here c) .args .notes .now) (here c .loop .fields .bits))
     (here c .loop .at)
     (here c .loop .last)
-    (c .judge .result)
-turn-at c = record { loop = here c .loop .inv; judging = judged-any house _ _ _ _ _ _ (c .judge .ensures) (here c .before .before .count-in .ensures) }
+    (c .judge-any .result)
+turn-at c = record { loop = here c .loop .inv; judging = judged-any house _ _ _ _ _ _ (c .judge-any .ensures) (here c .before .before .count-in .ensures) }
 
 count-in-requires : tie.Need-count-in-requires Inv-loop μ-loop
 count-in-requires c κs = search needs
@@ -39,19 +40,19 @@ none-requires : tie.Need-none-requires Inv-loop μ-loop
 none-requires c κs = search needs
 
 loop-holds : tie.Need-loop-holds Inv-loop μ-loop
-loop-holds c = loop-first (c .before .before .before .before .pre) (choosing-first (c .none .ensures))
+loop-holds c = loop-first (c .before .before .before .before .before .pre) (choosing-first (c .none .ensures))
 
-sub-judge : tie.Need-sub-judge Inv-loop μ-loop
-sub-judge c = search needs
+sub-judge-any : tie.Need-sub-judge-any Inv-loop μ-loop
+sub-judge-any c = search needs
 
-part-judge-start : tie.Need-part-judge-start Inv-loop μ-loop
-part-judge-start c = search needs
+part-judge-any-start : tie.Need-part-judge-any-start Inv-loop μ-loop
+part-judge-any-start c = search needs
 
-part-judge-end : tie.Need-part-judge-end Inv-loop μ-loop
-part-judge-end c = search needs
+part-judge-any-end : tie.Need-part-judge-any-end Inv-loop μ-loop
+part-judge-any-end c = search needs
 
-judge-requires : tie.Need-judge-requires Inv-loop μ-loop
-judge-requires c κs = search needs
+judge-any-requires : tie.Need-judge-any-requires Inv-loop μ-loop
+judge-any-requires c κs = search needs
 
 enum-told : tie.Need-enum-told Inv-loop μ-loop
 enum-told c = search needs
@@ -110,10 +111,10 @@ fields-in-spec =
     count-in-requires
     none-requires
     loop-holds
-    sub-judge
-    part-judge-start
-    part-judge-end
-    judge-requires
+    sub-judge-any
+    part-judge-any-start
+    part-judge-any-end
+    judge-any-requires
     enum-told
     returns
     enum-told-2

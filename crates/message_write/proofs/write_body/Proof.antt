@@ -2,7 +2,8 @@
 use Prim.Native.Nat.{_+_, _-_, _≤_}
 use lib.ListN.{length}
 use Rattle.field_table.specs.House.{house}
-use Rattle.field_table.proofs.Rows.{house-small}
+use Rattle.field_table.specs.Codes.{decoded}
+use Rattle.field_table.proofs.Decoded.{decoded-bounded}
 use Rattle.message_walk.specs.Walk.{any}
 use Rattle.message_walk.proofs.Ends.{judged-any}
 use Rattle.message_write.proofs.Passing.{Loop, loop-first, Turn, turn-refused, turn-end, turn-room, turn-good, turn-here, turn-next, Cleared, cleared-first, cleared-good, cleared-next, Writing, writing-first, writing-done, writing-fits, writing-more}
@@ -12,29 +13,29 @@ use Rattle.message_write.proofs.write_body.Statement.{statement}
 use Rattle.message_write.proofs.write_body.Tie as tie
 
 abbrev Inv-loop : tie.InvT-loop
-Inv-loop values notes out₀ count written₀ last₀ at₀ out written last at = Loop any values notes (Cleared house values notes (Writing house values notes out₀ out written)) at last
+Inv-loop values notes table out₀ count written₀ last₀ at₀ out written last at = Loop any values notes (Cleared (decoded table) values notes (Writing (decoded table) values notes out₀ out written)) at last
 
 abbrev μ-loop : tie.MeasureT-loop
-μ-loop values notes out₀ count written₀ last₀ at₀ out written last at = length notes + 1 - at
+μ-loop values notes table out₀ count written₀ last₀ at₀ out written last at = length notes + 1 - at
 
 -- the turn of the loop in which a note was judged
 abbrev start : tie.At-loop Inv-loop μ-loop → tie.Start Inv-loop μ-loop
-start l = l .before .before .before .before .before
+start l = l .before .before .before .before .before .before
 
-abbrev here : tie.After-judge Inv-loop μ-loop → tie.At-loop Inv-loop μ-loop
+abbrev here : tie.After-judge-any Inv-loop μ-loop → tie.At-loop Inv-loop μ-loop
 here c = c .before .before .before
 
 turn-at :
-    (c : tie.After-judge Inv-loop μ-loop) →
+    (c : tie.After-judge-any Inv-loop μ-loop) →
     Turn any (start (here c) .args .values .now) (start (here c) .args .notes .now)
-    (Cleared house (start (here c) .args .values .now) (start (here c) .args .notes .now)
-    (Writing house (start (here c) .args .values .now) (start (here c) .args .notes .now) (start (here c) .args .out .now) (here c .loop .out) (here c .loop .written)))
+    (Cleared (decoded (start (here c) .args .table .now)) (start (here c) .args .values .now) (start (here c) .args .notes .now)
+    (Writing (decoded (start (here c) .args .table .now)) (start (here c) .args .values .now) (start (here c) .args .notes .now) (start (here c) .args .out .now) (here c .loop .out) (here c .loop .written)))
     (here c .loop .at)
     (here c .loop .last)
-    (c .judge .result)
-turn-at c = record { loop = here c .loop .inv; judging = judged-any house _ _ _ _ _ _ (c .judge .ensures) (here c .before .count-in .ensures) }
+    (c .judge-any .result)
+turn-at c = record { loop = here c .loop .inv; judging = judged-any house _ _ _ _ _ _ (c .judge-any .ensures) (here c .before .count-in .ensures) }
 
-abbrev judged-in : tie.After-known-told Inv-loop μ-loop → tie.After-judge Inv-loop μ-loop
+abbrev judged-in : tie.After-known-told Inv-loop μ-loop → tie.After-judge-any Inv-loop μ-loop
 judged-in c = c .before .before .before
 
 fits : (c : tie.After-written-size Inv-loop μ-loop) → here (judged-in (c .before)) .loop .written + c .written-size .result ≤ length (here (judged-in (c .before)) .loop .out)
@@ -42,25 +43,25 @@ fits c =
     let k = turn-at (judged-in (c .before)) in
     let is = c .before .before .number .given .1 in
     let h = turn-here k is in
-    writing-fits house-small (h .rest) (cleared-good h .1) (c .written-size .ensures) (start (here (judged-in (c .before))) .pre .1 .1)
+    writing-fits (decoded-bounded _) (h .rest) (cleared-good h .1) (c .written-size .ensures) (start (here (judged-in (c .before))) .pre .1 .1)
 
 count-in-requires : tie.Need-count-in-requires Inv-loop μ-loop
 count-in-requires c κs = search needs
 
 loop-holds : tie.Need-loop-holds Inv-loop μ-loop
-loop-holds c = loop-first (c .before .before .before .before .pre .0) (cleared-first (c .before .before .before .before .pre .1 .0) writing-first)
+loop-holds c = loop-first (c .before .before .before .before .before .pre .0) (cleared-first (c .before .before .before .before .before .pre .1 .0) writing-first)
 
-sub-judge : tie.Need-sub-judge Inv-loop μ-loop
-sub-judge c = search needs
+sub-judge-any : tie.Need-sub-judge-any Inv-loop μ-loop
+sub-judge-any c = search needs
 
-part-judge-start : tie.Need-part-judge-start Inv-loop μ-loop
-part-judge-start c = search needs
+part-judge-any-start : tie.Need-part-judge-any-start Inv-loop μ-loop
+part-judge-any-start c = search needs
 
-part-judge-end : tie.Need-part-judge-end Inv-loop μ-loop
-part-judge-end c = search needs
+part-judge-any-end : tie.Need-part-judge-any-end Inv-loop μ-loop
+part-judge-any-end c = search needs
 
-judge-requires : tie.Need-judge-requires Inv-loop μ-loop
-judge-requires c κs = search needs
+judge-any-requires : tie.Need-judge-any-requires Inv-loop μ-loop
+judge-any-requires c κs = search needs
 
 enum-told : tie.Need-enum-told Inv-loop μ-loop
 enum-told c = search needs
@@ -130,7 +131,7 @@ loop-again c =
     let is = s .before .before .number .given .1 in
     let h = turn-here k is in
     turn-next k is
-    (cleared-next h (writing-more house-small (h .rest) (cleared-good h .1) (s .written-size .ensures) (start (here (judged-in (s .before))) .pre .1 .1) (c .before .before .put-field .ensures)))
+    (cleared-next h (writing-more (decoded-bounded _) (h .rest) (cleared-good h .1) (s .written-size .ensures) (start (here (judged-in (s .before))) .pre .1 .1) (c .before .before .put-field .ensures)))
 
 same-length-3 : tie.Need-same-length-3 Inv-loop μ-loop
 same-length-3 c = c .before .loop .inv .holds .rest .written .size
@@ -146,10 +147,10 @@ write-body-spec =
     μ-loop
     count-in-requires
     loop-holds
-    sub-judge
-    part-judge-start
-    part-judge-end
-    judge-requires
+    sub-judge-any
+    part-judge-any-start
+    part-judge-any-end
+    judge-any-requires
     enum-told
     same-length
     returns

@@ -1,6 +1,5 @@
 -- A refused walk is passed on; one that comes to the end note is written.
 use Prim.Native.Nat.{_-_}
-use Rattle.field_table.specs.House.{house}
 use Rattle.message_write.proofs.Answering.{by-refused, refused-left, by-head, by-entries, by-answered, by-laid}
 use borrow.Author.Needs.{needs}
 use Rattle.message_write.proofs.write_by.Statement.{statement}
@@ -18,17 +17,17 @@ enum-known-at c = search needs
 write-ended-requires : tie.Need-write-ended-requires
 write-ended-requires c κs =
     let kt = c .before in
-    let st = kt .before .before .before .before .before .before .before in
+    let st = kt .before .before .before .before .before .before .before .before in
     let d = st .args .out .now in
     let w = kt .before .before .before .walk .ensures in
     let h = kt .before .at .given .1 in
-    (by-head house _ _ _ d _ w (st .pre) _ _ h, by-entries house _ _ _ d _ w (st .pre) _ _ h)
+    (by-head _ _ _ _ d _ w (st .pre) _ _ h, by-entries _ _ _ _ d _ w (st .pre) _ _ h)
 
 returns : tie.Need-returns
 returns c =
     let w = c .before .before .before .walk .ensures in
     let h = c .before .refusal .given .1 in
-    (by-refused house _ _ _ _ _ w _ h, refused-left house _ _ _ _ _ w _ h)
+    (by-refused _ _ _ _ _ _ w _ h, refused-left _ _ _ _ _ _ w _ h)
 
 same-length : tie.Need-same-length
 same-length c = search needs
@@ -36,12 +35,12 @@ same-length c = search needs
 returns-2 : tie.Need-returns-2
 returns-2 c =
     let kt = c .before .before .before .before in
-    let st = kt .before .before .before .before .before .before .before in
+    let st = kt .before .before .before .before .before .before .before .before in
     let d = st .args .out .now in
     let w = kt .before .before .before .walk .ensures in
     let h = kt .before .at .given .1 in
     let en = c .before .before .write-ended .ensures in
-    (by-answered house _ _ _ d _ w (st .pre) _ _ h _ (en .0), by-laid house _ _ _ d _ w (st .pre) _ _ h _ (en .1))
+    (by-answered _ _ _ _ d _ w (st .pre) _ _ h _ (en .0), by-laid _ _ _ _ d _ w (st .pre) _ _ h _ (en .1))
 
 pub write-by-spec : {M : Type 1} → statement M
 write-by-spec =

@@ -1,59 +1,26 @@
--- The padded set is asked for once the message is written.
-use mathlib.Core.Path.{sym, _∙_}
+-- By the numbers that are lent, which stand for the house table.
 use Prim.Native.Nat.{_-_}
-use Rattle.field_table.specs.House.{house}
-use Rattle.message_walk.proofs.Heads.{ended-head, good-head}
-use Rattle.message_write.specs.Written.{chosenIn}
-use Rattle.message_write.proofs.Answering.{written-ended, padded-refused, padded-written}
+use Rattle.message_write.proofs.Tables.{answer-by, output-by, padded-by}
 use borrow.Author.Needs.{needs}
 use Rattle.message_write.proofs.write_clean.Statement.{statement}
 use Rattle.message_write.proofs.write_clean.Tie as tie
 
-write-by-requires : tie.Need-write-by-requires
-write-by-requires c κs = search needs
+house-table-requires : tie.Need-house-table-requires
+house-table-requires c κs = search needs
 
-enum-told : tie.Need-enum-told
-enum-told c = search needs
+slice-aggregate-clean-by : tie.Need-slice-aggregate-clean-by
+slice-aggregate-clean-by c = search needs
 
-none-requires : tie.Need-none-requires
-none-requires c κs = search needs
-
-enum-told-2 : tie.Need-enum-told-2
-enum-told-2 c = search needs
-
-fields-in-requires : tie.Need-fields-in-requires
-fields-in-requires c κs =
-    let b = c .before .before .before .before .write-by .ensures .0 in
-    let e = written-ended _ house _ _ _ _ (sym b ∙ c .enum-told2 .given .1) in
-    good-head _ (ended-head _ _ _ _ _ (e .1 .1)) .whole
+clean-by-requires : tie.Need-clean-by-requires
+clean-by-requires c κs = search needs
 
 same-length : tie.Need-same-length
 same-length c = search needs
 
 returns : tie.Need-returns
-returns c =
-    let b = c .before .before .before .before .before .write-by .ensures in
-    (b .0, (c .none .ensures ∙ padded-refused _ house _ _ _ _ (sym (b .0) ∙ c .before .enum-told .given .1), b .1))
-
-same-length-2 : tie.Need-same-length-2
-same-length-2 c = search needs
-
-returns-2 : tie.Need-returns-2
-unfolding chosenIn
-returns-2 c =
-    let b = c .before .before .before .before .before .write-by .ensures in
-    (b .0, (padded-written _ house _ _ _ _ _ (sym (b .0) ∙ c .before .enum-told2 .given .1) (c .fields-in .ensures), b .1))
+returns c = (search (answer-by, needs), (search (padded-by, needs), search (output-by, needs)))
 
 pub write-clean-spec : {M : Type 1} → statement M
 write-clean-spec =
     tie.close
-    (tie.spec
-    write-by-requires
-    enum-told
-    none-requires
-    enum-told-2
-    fields-in-requires
-    same-length
-    returns
-    same-length-2
-    returns-2)
+    (tie.spec house-table-requires slice-aggregate-clean-by clean-by-requires same-length returns)

@@ -3,7 +3,7 @@ use mathlib.Core.Path.{_≡_, _∙_}
 use Prim.Native.Nat.{ℕ, _+_, _*_, _-_, _≤_}
 use mathlib.Core.List.{List}
 use lib.ListN.{length}
-use Rattle.field_table.specs.House.{house}
+use Rattle.field_table.specs.Codes.{decoded}
 use Rattle.message_walk.specs.declared.Rule.the-variants.{Clean}
 use Rattle.message_walk.specs.Walk.{countIn, mtiIn, entriesIn}
 use Rattle.message_walk.specs.Answers.{testOf}
@@ -16,7 +16,7 @@ use Rattle.message_write.proofs.write_ended.Statement.{statement}
 use Rattle.message_write.proofs.write_ended.Tie as tie
 
 abbrev start : tie.After-count-in → tie.Start
-start c = c .before .before .before .before
+start c = c .before .before .before .before .before
 
 three-at : (c : tie.After-count-in) → c .count-in .result ≤ 3
 three-at c = omega (arith, c .count-in .ensures, good-head _ (start c .pre .0) .most)
@@ -24,13 +24,13 @@ three-at c = omega (arith, c .count-in .ensures, good-head _ (start c .pre .0) .
 -- the length that was measured is the message's
 abbrev message : tie.After-count-in → List ℕ
 message c =
-    messageOf house (start c .args .values .now) (mtiIn (start c .args .notes .now)) (countIn (start c .args .notes .now))
-    (entriesIn (testOf house Clean) (start c .args .values .now) (start c .args .notes .now))
+    messageOf (decoded (start c .args .table .now)) (start c .args .values .now) (mtiIn (start c .args .notes .now)) (countIn (start c .args .notes .now))
+    (entriesIn (testOf (decoded (start c .args .table .now)) Clean) (start c .args .values .now) (start c .args .notes .now))
 
 sized-at : (c : tie.After-measure) → length (message (c .before)) ≡ 4 + 8 * (c .before .count-in .result) + c .measure .result
 sized-at c =
     let good = start (c .before) .pre .0 in
-    message-long house _ _ _ _ (good-head _ good .four) (good-head _ good .most) ∙ omega (arith, c .before .count-in .ensures, c .measure .ensures .0)
+    message-long _ _ _ _ _ (good-head _ good .four) (good-head _ good .most) ∙ omega (arith, c .before .count-in .ensures, c .measure .ensures .0)
 
 count-in-requires : tie.Need-count-in-requires
 count-in-requires c κs = search needs

@@ -1,21 +1,29 @@
--- What the exact writer takes, the cleaning writer takes.
-use Prim.Native.Nat.{_-_}
-use Rattle.field_table.specs.House.{house}
-use Rattle.field_write.proofs.Allowed.{exact-is-clean}
 use Rattle.message_walk.specs.Answers.{testOf}
+use Rattle.field_write.proofs.Allowed.{exact-is-clean}
+-- By the numbers that are lent, which stand for the house table.
+use Prim.Native.Nat.{_-_}
+use Rattle.message_write.proofs.Tables.{answer-by, output-by}
 use borrow.Author.Needs.{needs}
 use Rattle.message_write.proofs.write_exact.Statement.{statement}
 use Rattle.message_write.proofs.write_exact.Tie as tie
 
+house-table-requires : tie.Need-house-table-requires
+house-table-requires c κs = search needs
+
+slice-aggregate-write-by : tie.Need-slice-aggregate-write-by
+slice-aggregate-write-by c = search needs
+
 write-by-requires : tie.Need-write-by-requires
 unfolding testOf
-write-by-requires c κs = λ f s e. exact-is-clean house f s e
+write-by-requires c κs = λ f s e. exact-is-clean _ f s e
 
 same-length : tie.Need-same-length
 same-length c = search needs
 
 returns : tie.Need-returns
-returns c = search needs
+returns c = (search (answer-by, needs), search (output-by, needs))
 
 pub write-exact-spec : {M : Type 1} → statement M
-write-exact-spec = tie.close (tie.spec write-by-requires same-length returns)
+write-exact-spec =
+    tie.close
+    (tie.spec house-table-requires slice-aggregate-write-by write-by-requires same-length returns)

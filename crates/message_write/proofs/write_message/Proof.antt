@@ -3,7 +3,7 @@
 use mathlib.Core.Path.{_≡_, _∙_}
 use Prim.Native.Nat.{ℕ, _+_, _*_, _≤_}
 use lib.ListN.{length}
-use Rattle.field_table.specs.House.{house}
+use Rattle.field_table.specs.Codes.{decoded}
 use Rattle.message_walk.specs.declared.Rule.the-variants.{Clean}
 use Rattle.message_walk.specs.Walk.{entriesIn}
 use Rattle.message_walk.specs.Answers.{testOf}
@@ -15,11 +15,11 @@ use native.Mathlib.Omega.{arith}
 use Rattle.message_write.proofs.write_message.Statement.{statement}
 use Rattle.message_write.proofs.write_message.Tie as tie
 
-asked-at : (s : tie.Start) → Asked house (s .args .values .now) (s .args .notes .now) (s .args .out .now)
+asked-at : (s : tie.Start) → Asked (decoded (s .args .table .now)) (s .args .values .now) (s .args .notes .now) (s .args .out .now)
 asked-at s = record { head = s .pre .0; named = s .pre .1 .0; room = s .pre .1 .1 }
 
 abbrev start : tie.After-to-bytes → tie.Start
-start c = c .before .before .before .before .before .before .before
+start c = c .before .before .before .before .before .before .before .before
 
 abbrev count : tie.After-to-bytes → ℕ
 count c = c .before .before .before .count-in .result
@@ -27,8 +27,8 @@ count c = c .before .before .before .count-in .result
 room-at :
     (c : tie.After-to-bytes) →
     (count c ≤ 3)
-    × (4 + 8 * count c + length (bodyOf house (start c .args .values .now) (entriesIn (testOf house Clean) (start c .args .values .now) (start c .args .notes .now))) ≤ length (start c .args .out .now))
-room-at c = omega (arith, c .before .before .before .count-in .ensures, asked-room house _ _ _ (asked-at (start c)))
+    × (4 + 8 * count c + length (bodyOf (decoded (start c .args .table .now)) (start c .args .values .now) (entriesIn (testOf (decoded (start c .args .table .now)) Clean) (start c .args .values .now) (start c .args .notes .now))) ≤ length (start c .args .out .now))
+room-at c = omega (arith, c .before .before .before .count-in .ensures, asked-room _ _ _ _ (asked-at (start c)))
 
 -- the MTI is written, and then the bitmaps
 abbrev begun : tie.After-put-arg3 → tie.After-to-bytes
@@ -44,7 +44,7 @@ count-in-requires : tie.Need-count-in-requires
 count-in-requires c κs = search needs
 
 fields-in-requires : tie.Need-fields-in-requires
-fields-in-requires c κs = good-head _ (c .before .before .before .before .pre .0) .whole
+fields-in-requires c κs = good-head _ (c .before .before .before .before .before .pre .0) .whole
 
 of-requires : tie.Need-of-requires
 of-requires c κs = search needs
@@ -115,7 +115,7 @@ unfolding chosenIn
 returns c =
     let h = c .before .before .before .before in
     let k = begun (headed h) in
-    message-written house _ _ _ (asked-at (start k)) (count k) (k .before .before .before .count-in .ensures) _ _ (k .to-bytes .ensures ∙ k .before .of .ensures .1)
+    message-written _ _ _ _ (asked-at (start k)) (count k) (k .before .before .before .count-in .ensures) _ _ (k .to-bytes .ensures ∙ k .before .of .ensures .1)
     (k .before .before .fields-in .ensures)
     _ _ _
     (headed h .before .before .before .before .put .ensures)

@@ -6,8 +6,8 @@ use borrow.Author.Needs.{needs}
 use Rattle.validation_required.proofs.check_required.Statement.{statement}
 use Rattle.validation_required.proofs.check_required.Tie as tie
 
-walk-requires : tie.Need-walk-requires
-walk-requires c κs = search needs
+walk-any-requires : tie.Need-walk-any-requires
+walk-any-requires c κs = search needs
 
 enum-known-refusal : tie.Need-enum-known-refusal
 enum-known-refusal c = search needs
@@ -31,7 +31,7 @@ pub check-required-spec : {M : Type 1} → statement M
 check-required-spec =
     tie.close
     (tie.spec
-    walk-requires
+    walk-any-requires
     enum-known-refusal
     enum-told
     first-missing-requires
