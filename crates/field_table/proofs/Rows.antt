@@ -9,7 +9,7 @@ use borrow.Author.Tests.{lt-leb, ne-eqb}
 use Rattle.octets.specs.Lists.{both, either}
 use Rattle.octets.proofs.Cases.{false-true}
 use Rattle.octets.proofs.Tables.{passed-left, passed-right}
-use Rattle.field_table.specs.Table.{Row, Table, none, find, tableOf}
+use Rattle.field_table.specs.Table.{Row, Table, none, find, tableOf, Small}
 use Rattle.field_table.specs.House.{houseRows, house}
 
 -- the test p passes at `none` and at each row
@@ -38,12 +38,6 @@ found-none m (r ∷ rs) f t h =
     go : (p q : Bool) → q ≡ false → find rs f ≡ none → elim (both p q) [ true ↦ r | false ↦ find rs f ] ≡ none
     go true q z e = rw z e
     go false q z e = e
-
--- what readers and writers ask of a table: at most three length digits, lengths of at most 999, and a variable field's lengths fit in its digits
-pub record Small (t : Table) : Type 0 where
-  pub width-small : (f : ℕ) → t .width f ≤ 3
-  pub most-small : (f : ℕ) → t .most f ≤ 999
-  pub most-spelt : (f : ℕ) → (t .width f ≡ 0 → ⊥) → t .most f < 10 ^ t .width f
 
 -- what bounds the sizes that are written: every table that codes stand for has it
 pub record Bounded (t : Table) : Type 0 where

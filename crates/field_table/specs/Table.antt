@@ -11,9 +11,12 @@
 --   find rows f      == the first row that has field f; `none` where no row has it
 --   tableOf rows     == the table that the rows make
 --   isBinary c       == contents of class c may hold any byte; those of the others are text
+--   Small t          == what the theorems ask of a table: at most three length digits, no length over 999, and the lengths of a variable field
+--                       can be spelt in its digits. The house table is small (proofs/Rows.antt)
 --
 -- Assumes nothing: these are definitions.
-use Prim.Native.Nat.{ℕ}
+use Prim.Native.Nat.{ℕ, _^_, _≤_, _<_}
+use mathlib.Core.Path.{_≡_}
 use mathlib.Core.List.{List, [], _∷_}
 use mathlib.Core.Bool.{Bool, true, false}
 use lib.Dec.{leb}
@@ -64,3 +67,8 @@ isBinary Ns = false
 isBinary Z = false
 isBinary Xn = false
 isBinary B = true
+
+pub record Small (t : Table) : Type 0 where
+  pub width-small : (f : ℕ) → t .width f ≤ 3
+  pub most-small : (f : ℕ) → t .most f ≤ 999
+  pub most-spelt : (f : ℕ) → (t .width f ≡ 0 → ⊥) → t .most f < 10 ^ t .width f

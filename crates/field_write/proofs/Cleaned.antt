@@ -13,10 +13,10 @@ use Rattle.octets.specs.Numbers.{isAscii, digits, decimal, decimalOf}
 use Rattle.octets.proofs.Cases.{by-bool, by-eq}
 use Rattle.octets.proofs.Lists.{all-append}
 use Rattle.octets.proofs.Numbers.{digits-length, number-digits}
-use Rattle.field_table.specs.Table.{Table, isBinary}
+use Rattle.field_table.specs.Table.{Table, isBinary, Small}
 use Rattle.field_table.specs.declared.Class.{Class}
 use Rattle.field_table.specs.declared.Class.the-variants.{N, A, An, Ans, Ns, Z, Xn, B}
-use Rattle.field_table.proofs.Rows.{Small, Bounded}
+use Rattle.field_table.proofs.Rows.{Bounded}
 use Rattle.field_write.specs.Fields.{exactFault, cleanFault, isShort, missing, padByte, padsLeft, padded, cleaned, fieldBytes, writtenSize, longest}
 use Rattle.field_write.proofs.Allowed.{clean-passed, exact-passes, exact-not-short, not-short-long}
 use Rattle.field_write.proofs.Padding.{missing-variable, missing-fixed, padded-none}

@@ -1,7 +1,7 @@
 -- Two readings with the same notes are one reading. Assumes nothing.
 use Prim.Native.Nat.{ℕ, _+_, _-_, _<_}
 use mathlib.Core.Path.{_≡_, refl, sym, ap, _∙_}
-use mathlib.Core.List.{List, [], _∷_, _++_, append-assoc}
+use mathlib.Core.List.{List, [], _∷_, _++_, append-assoc, append-nil}
 use native.Mathlib.Omega.{arith}
 use lib.ListN.{length, take, drop}
 use lib.Seq.{take-at, drop-at}
@@ -10,6 +10,7 @@ use Rattle.octets.proofs.Numbers.{number-digits}
 use Rattle.message_language.specs.Language.{Entry, Reading}
 use Rattle.message_notes.specs.declared.Note.{Note}
 use Rattle.message_notes.specs.declared.Note.the-variants.{Field, End}
+use Rattle.message_notes.specs.Dialect.{Form, noteSize, endKind}
 use Rattle.message_notes.specs.Notes.{headNote, fieldNote, endNote, fieldNotes, notesOf, noteAt}
 use Rattle.message_notes.proofs.Sizes.{bytes-long, field-long}
 use Rattle.message_notes.proofs.Spelling.{Fits, AllFit}
@@ -24,41 +25,38 @@ never : (o : Note) (a b c u : ℕ) → o ≡ Field a b c → o ≡ End u → ⊥
 never o a b c u p q = let z : _≡_ {A = ℕ} 0 1 = cc in omega arith
 
 -- the notes of fields, then the end, as reading one note after the other has them
-behind : (e : Entry) (es : List Entry) (tail : List ℕ) → (fieldNote e ++ fieldNotes es) ++ tail ≡ fieldNote e ++ (fieldNotes es ++ tail)
-behind e es tail = append-assoc (fieldNote e) (fieldNotes es) tail
+module _ (F : Form) (apart : F .kind ≡ endKind → ⊥) where
+  behind : (e : Entry) (es : List Entry) (tail : List ℕ) → (fieldNote F e ++ fieldNotes F es) ++ tail ≡ fieldNote F e ++ (fieldNotes F es ++ tail)
+  behind e es tail = append-assoc (fieldNote F e) (fieldNotes F es) tail
 
-first-note : (e : Entry) (es : List Entry) (u : ℕ) → Fits e → noteAt (fieldNotes (e ∷ es) ++ endNote u) ≡ Field (e .number) (e .offset) (e .size)
-unfolding fieldNotes
-first-note e es u f = ap noteAt (behind e es (endNote u)) ∙ field-back e (fieldNotes es ++ endNote u) f
+  first-note : (e : Entry) (es : List Entry) (u : ℕ) → Fits e → noteAt F (fieldNotes F (e ∷ es) ++ endNote u) ≡ Field (e .number) (e .offset) (e .size)
+  unfolding fieldNotes
+  first-note e es u f = ap (noteAt F) (behind e es (endNote u)) ∙ field-back F e (fieldNotes F es ++ endNote u) f
 
-rest-notes : (e : Entry) (es : List Entry) (u : ℕ) → drop 8 (fieldNotes (e ∷ es) ++ endNote u) ≡ fieldNotes es ++ endNote u
-unfolding fieldNotes
-rest-notes e es u = ap (drop 8) (behind e es (endNote u)) ∙ drop-at (fieldNote e) (fieldNotes es ++ endNote u) 8 (field-long e)
+  rest-notes : (e : Entry) (es : List Entry) (u : ℕ) → drop (noteSize F) (fieldNotes F (e ∷ es) ++ endNote u) ≡ fieldNotes F es ++ endNote u
+  unfolding fieldNotes
+  rest-notes e es u = ap (drop (noteSize F)) (behind e es (endNote u)) ∙ drop-at (fieldNote F e) (fieldNotes F es ++ endNote u) (noteSize F) (field-long F e)
 
-last-note : (u : ℕ) → u < 4294967296 → noteAt (fieldNotes [] ++ endNote u) ≡ End u
-unfolding fieldNotes endNote
-last-note u h = ap noteAt (sym (append-nil′ (endNote u))) ∙ end-back u [] h
-  where
-    append-nil′ : (l : List ℕ) → l ++ [] ≡ l
-    append-nil′ [] = refl
-    append-nil′ (x ∷ l) = ap (λ (q : List ℕ). x ∷ q) (append-nil′ l)
+  last-note : (u : ℕ) → u < 4294967296 → noteAt F (fieldNotes F [] ++ endNote u) ≡ End u
+  unfolding fieldNotes endNote
+  last-note u h = ap (noteAt F) (sym (append-nil (endNote u))) ∙ end-back F u [] apart h
 
-pub fields-apart : (es es′ : List Entry) (u v : ℕ) → AllFit es → AllFit es′ → u < 4294967296 → v < 4294967296
-    → fieldNotes es ++ endNote u ≡ fieldNotes es′ ++ endNote v → SameNotes es es′ u v
-unfolding AllFit
-fields-apart [] [] u v a b hu hv e =
-    let s : End u ≡ End v = sym (last-note u hu) ∙ ap noteAt e ∙ last-note v hv in
-    record { entries = refl; end = cc }
-fields-apart [] (y ∷ es′) u v a b hu hv e = absurd (never _ _ _ _ u (ap noteAt e ∙ first-note y es′ v (b .0)) (last-note u hu))
-fields-apart (x ∷ es) [] u v a b hu hv e = absurd (never _ _ _ _ v (ap noteAt (sym e) ∙ first-note x es u (a .0)) (last-note v hv))
-fields-apart (x ∷ es) (y ∷ es′) u v a b hu hv e =
-    let f : Field (x .number) (x .offset) (x .size) ≡ Field (y .number) (y .offset) (y .size) = sym (first-note x es u (a .0)) ∙ ap noteAt e ∙ first-note y es′ v (b .0) in
-    let n : x .number ≡ y .number = cc in
-    let o : x .offset ≡ y .offset = cc in
-    let z : x .size ≡ y .size = cc in
-    let xy : x ≡ y = λ i. record { number = n i; offset = o i; size = z i } in
-    let r = fields-apart es es′ u v (a .1) (b .1) hu hv (sym (rest-notes x es u) ∙ ap (drop 8) e ∙ rest-notes y es′ v) in
-    record { entries = rw (xy, r .entries); end = r .end }
+  pub fields-apart : (es es′ : List Entry) (u v : ℕ) → AllFit es → AllFit es′ → u < 4294967296 → v < 4294967296
+      → fieldNotes F es ++ endNote u ≡ fieldNotes F es′ ++ endNote v → SameNotes es es′ u v
+  unfolding AllFit
+  fields-apart [] [] u v a b hu hv e =
+      let s : End u ≡ End v = sym (last-note u hu) ∙ ap (noteAt F) e ∙ last-note v hv in
+      record { entries = refl; end = cc }
+  fields-apart [] (y ∷ es′) u v a b hu hv e = absurd (never _ _ _ _ u (ap (noteAt F) e ∙ first-note y es′ v (b .0)) (last-note u hu))
+  fields-apart (x ∷ es) [] u v a b hu hv e = absurd (never _ _ _ _ v (ap (noteAt F) (sym e) ∙ first-note x es u (a .0)) (last-note v hv))
+  fields-apart (x ∷ es) (y ∷ es′) u v a b hu hv e =
+      let f : Field (x .number) (x .offset) (x .size) ≡ Field (y .number) (y .offset) (y .size) = sym (first-note x es u (a .0)) ∙ ap (noteAt F) e ∙ first-note y es′ v (b .0) in
+      let n : x .number ≡ y .number = cc in
+      let o : x .offset ≡ y .offset = cc in
+      let z : x .size ≡ y .size = cc in
+      let xy : x ≡ y = λ i. record { number = n i; offset = o i; size = z i } in
+      let r = fields-apart es es′ u v (a .1) (b .1) hu hv (sym (rest-notes x es u) ∙ ap (drop (noteSize F)) e ∙ rest-notes y es′ v) in
+      record { entries = rw (xy, r .entries); end = r .end }
 
 -- the head: four bytes and a count
 module _ (mti mti′ : List ℕ) (m m′ : ℕ) (rest rest′ : List ℕ) (four : length mti ≡ 4) (four′ : length mti′ ≡ 4)
@@ -84,12 +82,12 @@ module _ (mti mti′ : List ℕ) (m m′ : ℕ) (rest rest′ : List ℕ) (four 
   pub same-rest : rest ≡ rest′
   same-rest = sym (drop-at (bigEndian 1 m) rest 1 (bytes-long 1 m)) ∙ ap (drop 1) counts ∙ drop-at (bigEndian 1 m′) rest′ 1 (bytes-long 1 m′)
 
-pub notes-apart : (r q : Reading) (u v : ℕ) → length (r .mti) ≡ 4 → length (q .mti) ≡ 4 → r .count < 256 → q .count < 256 → AllFit (r .entries) → AllFit (q .entries)
-    → u < 4294967296 → v < 4294967296 → notesOf r u ≡ notesOf q v → (r ≡ q) × (u ≡ v)
+pub notes-apart : (F : Form) (r q : Reading) (u v : ℕ) → (F .kind ≡ endKind → ⊥) → length (r .mti) ≡ 4 → length (q .mti) ≡ 4 → r .count < 256 → q .count < 256
+    → AllFit (r .entries) → AllFit (q .entries) → u < 4294967296 → v < 4294967296 → notesOf F r u ≡ notesOf F q v → (r ≡ q) × (u ≡ v)
 unfolding notesOf
-notes-apart r q u v l l′ c c′ a a′ hu hv e =
+notes-apart F r q u v apart l l′ c c′ a a′ hu hv e =
     let s = same-rest (r .mti) (q .mti) (r .count) (q .count) _ _ l l′ e in
-    let t = fields-apart (r .entries) (q .entries) u v a a′ hu hv s in
+    let t = fields-apart F apart (r .entries) (q .entries) u v a a′ hu hv s in
     let m = same-mti (r .mti) (q .mti) (r .count) (q .count) _ _ l l′ e in
     let k = same-count (r .mti) (q .mti) (r .count) (q .count) _ _ l l′ e c c′ in
     ((λ i. record { mti = m i; count = k i; entries = t .entries i }), t .end)

@@ -11,9 +11,9 @@ use Rattle.octets.proofs.Cases.{by-lt}
 use Rattle.refusal.specs.Numbers.{notesTooShort}
 use Rattle.refusal.specs.Refusals.{plain}
 use Rattle.refusal.specs.declared.Refusal.{Refusal}
-use Rattle.field_table.specs.Table.{Table}
+use Rattle.field_table.specs.Table.{Table, Small}
 use Rattle.field_table.specs.House.{house}
-use Rattle.field_table.proofs.Rows.{Small, house-small}
+use Rattle.field_table.proofs.Rows.{house-small}
 use Rattle.message_language.specs.Language.{Reading, Begins}
 use Rattle.message_notes.specs.Notes.{headNote, fieldNotes, endNote, notesOf, notesRoom, entryAt}
 use Rattle.message_notes.proofs.Spelling.{entry-at}

@@ -10,8 +10,7 @@ use Rattle.octets.proofs.Cases.{both-left, both-right}
 use Rattle.bitmap.specs.Bitmaps.{isField, fieldsOf}
 use Rattle.bitmap.proofs.Fields.{fields-are, fields-few}
 use Rattle.bitmap.proofs.Maps.{field-high}
-use Rattle.field_table.specs.Table.{Table}
-use Rattle.field_table.proofs.Rows.{Small}
+use Rattle.field_table.specs.Table.{Table, Small}
 use Rattle.message_language.specs.Language.{Entry, Fields, none, more, Reading, Message}
 use Rattle.message_notes.specs.Notes.{notesOf, notesRoom}
 use Rattle.message_notes.proofs.Sizes.{notes-long}

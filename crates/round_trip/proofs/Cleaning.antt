@@ -11,9 +11,9 @@ use Rattle.octets.proofs.Cases.{false-true, by-bool, by-eq, by-le}
 use Rattle.refusal.specs.declared.Refusal.{Refusal}
 use Rattle.refusal.specs.declared.Output.{Output}
 use Rattle.refusal.specs.declared.Output.the-variants.{Written, Refused}
-use Rattle.field_table.specs.Table.{Table}
+use Rattle.field_table.specs.Table.{Table, Small}
 use Rattle.field_table.specs.House.{house}
-use Rattle.field_table.proofs.Rows.{Small, house-small}
+use Rattle.field_table.proofs.Rows.{house-small}
 use Rattle.field_write.specs.Fields.{exactFault, cleanFault, isShort, missing, padByte, padsLeft, padded, cleaned}
 use Rattle.field_write.proofs.Cleaned.{not-short-whole, cleaned-exact}
 use Rattle.bitmap.specs.Bits.{bitOf}

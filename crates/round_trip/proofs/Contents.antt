@@ -9,8 +9,7 @@ use lib.ListN.{length, take, length-append}
 use Rattle.octets.specs.Lists.{either, all}
 use Rattle.octets.specs.Numbers.{isDigit, isAscii, decimal}
 use Rattle.octets.proofs.Numbers.{digits-length, digits-between}
-use Rattle.field_table.specs.Table.{Table}
-use Rattle.field_table.proofs.Rows.{Small}
+use Rattle.field_table.specs.Table.{Table, Small}
 use Rattle.field_write.specs.Fields.{exactFault}
 use Rattle.field_write.proofs.Allowed.{exact-passed, exact-is-clean}
 use Rattle.field_write.proofs.Cleaned.{digits-spell}

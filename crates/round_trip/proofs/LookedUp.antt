@@ -10,9 +10,9 @@ use Rattle.octets.specs.Lists.{both}
 use Rattle.octets.proofs.Cases.{both-left}
 use Rattle.refusal.specs.Numbers.{fieldAbsent}
 use Rattle.refusal.specs.Refusals.{refusal}
-use Rattle.field_table.specs.Table.{Table}
+use Rattle.field_table.specs.Table.{Table, Small}
 use Rattle.field_table.specs.House.{house}
-use Rattle.field_table.proofs.Rows.{Small, house-small}
+use Rattle.field_table.proofs.Rows.{house-small}
 use Rattle.field_write.specs.Fields.{exactFault}
 use Rattle.bitmap.specs.Bitmaps.{isField}
 use Rattle.message_language.specs.Language.{Entry, Reading, Begins}

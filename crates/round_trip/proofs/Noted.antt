@@ -6,8 +6,7 @@ use mathlib.Core.List.{List, _++_, append-assoc}
 use native.Mathlib.Omega.{arith}
 use lib.ListN.{length, drop, length-append}
 use Rattle.octets.specs.Lists.{lay}
-use Rattle.field_table.specs.Table.{Table}
-use Rattle.field_table.proofs.Rows.{Small}
+use Rattle.field_table.specs.Table.{Table, Small}
 use Rattle.field_write.specs.Fields.{exactFault}
 use Rattle.bitmap.specs.Bitmaps.{fieldsOf}
 use Rattle.bitmap.proofs.Maps.{count-least}

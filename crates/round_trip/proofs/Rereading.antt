@@ -17,9 +17,9 @@ use Rattle.refusal.specs.Numbers.{endDiffers, outputTooShort}
 use Rattle.refusal.specs.Refusals.{refusal}
 use Rattle.refusal.specs.declared.Output.the-variants.{Written, Refused}
 use Rattle.refusal.specs.declared.Refusal.{Refusal}
-use Rattle.field_table.specs.Table.{Table}
+use Rattle.field_table.specs.Table.{Table, Small}
 use Rattle.field_table.specs.House.{house}
-use Rattle.field_table.proofs.Rows.{Small, house-small}
+use Rattle.field_table.proofs.Rows.{house-small}
 use Rattle.field_write.specs.Fields.{exactFault, cleanFault, cleaned, fieldBytes}
 use Rattle.field_write.proofs.Cleaned.{exact-unpadded, cleaned-exact, cleaned-bytes}
 use Rattle.bitmap.specs.Bitmaps.{setOf, mapsFor}

@@ -10,9 +10,9 @@ use Rattle.octets.specs.Lists.{between, all, lay}
 use Rattle.octets.proofs.Cases.{both-left, both-right}
 use Rattle.octets.proofs.Lists.{placed-fits}
 use Rattle.refusal.specs.declared.Output.the-variants.{Written}
-use Rattle.field_table.specs.Table.{Table}
+use Rattle.field_table.specs.Table.{Table, Small}
 use Rattle.field_table.specs.House.{house}
-use Rattle.field_table.proofs.Rows.{Small, house-small}
+use Rattle.field_table.proofs.Rows.{house-small}
 use Rattle.field_write.specs.Fields.{exactFault}
 use Rattle.bitmap.specs.Bitmaps.{setOf, mapsFor}
 use Rattle.message_language.specs.Language.{Reading, Begins}

@@ -1,13 +1,14 @@
 -- The kind is stored, and each number laid behind what is there.
-use mathlib.Core.Path.{refl, ap, _∙_}
-use mathlib.Core.List.{List, [], _∷_, _++_}
+use mathlib.Core.Path.{refl, sym, ap, _∙_}
+use mathlib.Core.List.{List, [], _∷_, _++_, append-assoc, append-nil}
 use Prim.Native.Nat.{ℕ, _+_, _-_}
 use lib.ListN.{length, set, length-set, length-append}
-use mathlib.Core.List.{append-assoc}
 use Rattle.octets.specs.Lists.{lay}
-use Rattle.octets.specs.Numbers.{bigEndian}
+use Rattle.octets.specs.Numbers.{digits, bigEndian}
 use Rattle.octets.proofs.Lists.{placed-short, placed-done}
 use Rattle.octets.proofs.Parts.{lay-one, placed-part}
+use Rattle.message_language.specs.Language.{entry}
+use Rattle.message_notes.specs.Dialect.{plainForm}
 use Rattle.message_notes.specs.Notes.{fieldNote}
 use Rattle.message_notes.proofs.Sizes.{bytes-long, field-long}
 use borrow.Author.Needs.{needs}
@@ -23,7 +24,7 @@ abbrev back : tie.After-slice-known3 → tie.After-slice-known2
 back c = c .before .before .before .before
 
 returns : tie.Need-returns
-returns c = placed-short _ _ _ (field-long _) (c .if1 .taken)
+returns c = placed-short _ _ _ (field-long plainForm _) (c .if1 .taken)
 
 slice-write-out : tie.Need-slice-write-out
 slice-write-out c = search needs
@@ -70,7 +71,7 @@ same-length c =
     c .before .out3 .given .1 ∙ b .before .out2 .given .1 ∙ back b .before .out .given .1 ∙ simp length-set
 
 returns-2 : tie.Need-returns-2
-unfolding fieldNote
+unfolding fieldNote digits
 returns-2 c =
     let c2 = c .before .before .before .before in
     let c1 = back c2 in
@@ -86,7 +87,7 @@ returns-2 c =
     let e1 = placed-part (2 ∷ []) f d (set d 0 2) _ 1 (lay-one 2 d (omega arith)) refl (omega arith) (c1 .before .before .put-big-endian .ensures) in
     let e2 = placed-part (2 ∷ f) o d _ _ 2 e1 (omega arith) (omega arith) (c2 .before .before .put-big-endian2 .ensures) in
     let e3 = placed-part (2 ∷ (f ++ o)) n d _ _ 6 e2 (omega arith) (omega arith) (c .before .before .put-big-endian3 .ensures) in
-    placed-done _ _ _ (field-long _) _ (omega arith) (e3 ∙ ap (λ (l : List ℕ). lay (2 ∷ l) d) (append-assoc f o n))
+    placed-done _ _ _ (field-long plainForm (entry (a .number) (a .offset) (a .length))) _ (omega arith) (e3 ∙ ap (λ (l : List ℕ). lay (2 ∷ l) d) (append-assoc f o n ∙ ap (λ (l : List ℕ). f ++ (o ++ l)) (sym (append-nil n))))
 
 pub put-field-spec : {M : Type 1} → statement M
 put-field-spec =
