@@ -1,62 +1,68 @@
 -- The ends of the walking routines, with the facts as the code has them. Assumes nothing.
-use Prim.Native.Nat.{ℕ, suc, _+_, _-_, _*_, _/_, _≤_, _<_}
+use Prim.Native.Nat.{ℕ, _+_, _-_, _*_, _/_, _≤_, _<_}
 use mathlib.Core.Path.{_≡_, refl, sym, ap, _∙_}
-use mathlib.Core.Bool.{Bool, true, false, not}
-use mathlib.Core.List.{List}
+use mathlib.Core.Bool.{Bool, true, false, not, cond}
+use mathlib.Core.List.{List, []}
 use native.Mathlib.Omega.{arith}
 use native.Mathlib.Nat.{add-sub-cancel-left}
 use lib.Dec.{leb, ltb}
-use lib.ListN.{length, take, drop, getD, length-drop, List·getD-eq-default}
-use lib.Seq.{drop-drop}
+use lib.ListN.{length, take, drop}
 use borrow.Author.Tests.{eq-eqb, ne-eqb, le-leb, lt-leb, lt-ltb, le-ltb, leb-true, not-true, not-false}
-use Rattle.octets.specs.Lists.{between, all}
-use Rattle.octets.specs.Numbers.{isDigit}
-use Rattle.octets.proofs.Cases.{by-le, tested-true}
-use Rattle.octets.proofs.Parts.{to-end}
+use Rattle.octets.specs.Lists.{both, between, all}
+use Rattle.octets.specs.Numbers.{number, isDigit}
+use Rattle.octets.proofs.Cases.{by-le, tested-true, both-left}
+use Rattle.octets.proofs.Lists.{below-low, above-high, is-between}
 use Rattle.refusal.specs.Numbers.{mtiNotDigits, noteMalformed, numberNotAllowed, outsideValues}
-use Rattle.refusal.specs.Refusals.{refusal, plain}
+use Rattle.refusal.specs.Refusals.{plain}
+use Rattle.refusal.specs.declared.Refusal.{Refusal}
 use Rattle.field_table.specs.Table.{Table}
-use Rattle.bitmap.specs.Bitmaps.{isField}
+use Rattle.bitmap.specs.Bitmaps.{isField, noFields}
 use Rattle.bitmap.proofs.Maps.{field-low}
-use Rattle.message_notes.specs.Notes.{headKind, headSize, fieldNoteSize}
+use Rattle.message_language.specs.Language.{Entry, entry}
+use Rattle.message_contents.specs.Contents.{contentOf, numberAllowed}
+use Rattle.message_notes.specs.Dialect.{Form, plainForm, headSize, Dialect}
+use Rattle.message_notes.specs.Notes.{isHead, mtiIn, countIn, isMarked, noteAt}
+use Rattle.message_notes.specs.declared.Note.the-variants.{Field as FieldNote}
 use Rattle.message_walk.specs.declared.Rule.{Rule}
-use Rattle.message_walk.specs.declared.Rule.the-variants.{Any}
 use Rattle.message_walk.specs.declared.Judged.{Judged}
-use Rattle.message_walk.specs.declared.Judged.the-variants.{Passed, End, Refused}
+use Rattle.message_walk.specs.declared.Judged.the-variants.{Passed, Refused}
 use Rattle.message_walk.specs.declared.Walked.{Walked}
-use Rattle.message_walk.specs.declared.Walked.the-variants.{Ended, Refused as WalkRefused}
-use Rattle.message_walk.specs.Walk.{Test, any, headNumber, countIn, numberAllowed, contentOf, judgedField, judged, ending, walked}
-use Rattle.message_walk.specs.Answers.{testOf, answerOf, walkedBy, endedBy}
-use Rattle.message_walk.proofs.Steps.{passing, note-whole, ending-bad, ending-end, ending-more}
+use Rattle.message_walk.specs.declared.Walked.the-variants.{Refused as WalkRefused}
+use Rattle.message_walk.specs.Walk.{Fault, headNumber, judgedField, judged, ending, walked, entriesIn, fieldsOn, fieldsIn}
+use Rattle.message_walk.specs.Faults.{asked, within, faultBy}
+use Rattle.message_walk.proofs.Steps.{judged-note}
 
--- `count_in`
-pub count-none : (n : List ℕ) → length n < headSize → 0 ≡ countIn n
-count-none n h = sym (List·getD-eq-default n 0 (omega arith))
-
--- `head_fault`
-module _ (n : List ℕ) where
-  pub head-short : length n < headSize → noteMalformed ≡ headNumber n
+-- `head_fault`, where three bitmaps are taken
+module _ (n : List ℕ) (flag : Bool) (headed : flag ≡ isHead n) where
+  pub head-not : not flag ≡ true → noteMalformed ≡ headNumber 3 n
   unfolding headNumber
-  head-short h = rw (lt-leb headSize (length n) h)
+  head-not h = rw (← headed, not-true flag h)
 
-  module _ (long : headSize ≤ length n) where
-    pub head-kind : (getD n 0 0 ≡ headKind → ⊥) → noteMalformed ≡ headNumber n
+  module _ (good : not flag ≡ false) (k : ℕ) (counted : k ≡ countIn n) where
+    pub head-none : k < 1 → noteMalformed ≡ headNumber 3 n
     unfolding headNumber
-    head-kind h = rw (le-leb headSize (length n) long, ne-eqb (getD n 0 0) headKind h)
+    head-none h = rw (← headed, not-false flag good, ← counted, below-low 1 3 k h)
 
-    module _ (kind : getD n 0 0 ≡ headKind) (flag : Bool) (counted : flag ≡ between 1 3 (getD n 5 0)) where
-      pub head-count : not flag ≡ true → noteMalformed ≡ headNumber n
+    module _ (least : 1 ≤ k) where
+      pub head-many : 3 < k → noteMalformed ≡ headNumber 3 n
       unfolding headNumber
-      head-count t = rw (le-leb headSize (length n) long, eq-eqb (getD n 0 0) headKind kind, ← counted, not-true flag t)
+      head-many h = rw (← headed, not-false flag good, ← counted, above-high 1 3 k least h)
 
-      module _ (good : not flag ≡ false) (flag2 : Bool) (digits : flag2 ≡ all isDigit (take 4 (drop 1 n))) where
-        pub head-mti : not flag2 ≡ true → mtiNotDigits ≡ headNumber n
-        unfolding headNumber
-        head-mti t = rw (le-leb headSize (length n) long, eq-eqb (getD n 0 0) headKind kind, ← counted, not-false flag good, ← digits, not-true flag2 t)
+      module _ (few : k ≤ 3) (mti : List ℕ) (part : mti ≡ cond (leb headSize (length n)) (mtiIn n) []) (flag2 : Bool) (digits : flag2 ≡ all isDigit mti) where
+        long : leb headSize (length n) ≡ true
+        unfolding isHead
+        long = both-left (leb headSize (length n)) _ (tested-true flag (isHead n) headed good)
 
-        pub head-good : not flag2 ≡ false → 0 ≡ headNumber n
+        is-mti : flag2 ≡ all isDigit (mtiIn n)
+        is-mti = digits ∙ ap (all isDigit) part ∙ ap (λ (b : Bool). all isDigit (cond b (mtiIn n) [])) long
+
+        pub head-mti : not flag2 ≡ true → mtiNotDigits ≡ headNumber 3 n
         unfolding headNumber
-        head-good t = rw (le-leb headSize (length n) long, eq-eqb (getD n 0 0) headKind kind, ← counted, not-false flag good, ← digits, not-false flag2 t)
+        head-mti t = rw (← headed, not-false flag good, ← counted, is-between 1 3 k least few, le-leb k 3 few, ← is-mti, not-true flag2 t)
+
+        pub head-good : not flag2 ≡ false → 0 ≡ headNumber 3 n
+        unfolding headNumber
+        head-good t = rw (← headed, not-false flag good, ← counted, is-between 1 3 k least few, le-leb k 3 few, ← is-mti, not-false flag2 t)
 
 -- `is_number_allowed`
 module _ (m last f : ℕ) where
@@ -91,127 +97,68 @@ long-enough size o n h =
 pub inside-of : (o n size : ℕ) (flag : Bool) → flag ≡ leb (o + n) size → not flag ≡ false → o + n ≤ size
 inside-of o n size flag e t = leb-true (o + n) size (tested-true flag (leb (o + n) size) e t)
 
+-- `content_fault`: what holds by the rule that an arm names holds by the rule that was given
+pub rule-is : (t : Table) (r k : Rule) (f : ℕ) (s : List ℕ) (n : ℕ) → r ≡ k → n ≡ asked t k f s → n ≡ asked t r f s
+rule-is t r k f s n e h = h ∙ ap (λ (x : Rule). asked t x f s) (sym e)
+
+-- `fault_of`
+module _ (t : Table) (r : Rule) (v : List ℕ) (f o n : ℕ) (flag : Bool) (placed : flag ≡ leb (o + n) (length v)) where
+  pub fault-outside : not flag ≡ true → outsideValues ≡ faultBy t v r (entry f o n)
+  unfolding faultBy within
+  fault-outside h = rw (← placed, not-true flag h)
+
+  pub fault-inside : not flag ≡ false → (x : ℕ) → x ≡ asked t r f (take (o + n - o) (drop o v)) → x ≡ faultBy t v r (entry f o n)
+  unfolding faultBy within
+  fault-inside h x e =
+      rw (← placed, not-false flag h) (e ∙ ap (λ (k : ℕ). asked t r f (take k (drop o v))) (add-sub-cancel-left o n))
+
 -- `judge_field`
-module _ (p : Test) (v : List ℕ) (m last f o n : ℕ) (flag : Bool) (numbered : flag ≡ numberAllowed m last f) where
-  pub field-number : not flag ≡ true → Refused numberNotAllowed f ≡ judgedField p v m last f o n
+module _ (p : Fault) (m last f o n : ℕ) (flag : Bool) (numbered : flag ≡ numberAllowed m last f) where
+  pub field-number : not flag ≡ true → Refused numberNotAllowed f ≡ judgedField true p m last f o n
   unfolding judgedField
   field-number t = rw (← numbered, not-true flag t)
 
-  module _ (good : not flag ≡ false) (flag2 : Bool) (placed : flag2 ≡ leb (o + n) (length v)) where
-    pub field-outside : not flag2 ≡ true → Refused outsideValues f ≡ judgedField p v m last f o n
+  module _ (good : not flag ≡ false) (fault : ℕ) (found : fault ≡ p (entry f o n)) where
+    pub field-fault : (fault ≡ 0 → ⊥) → Refused fault f ≡ judgedField true p m last f o n
     unfolding judgedField
-    field-outside t = rw (← numbered, not-false flag good, ← placed, not-true flag2 t)
+    field-fault h = rw (← numbered, not-false flag good, ← found, ne-eqb fault 0 h)
 
-    module _ (inside : not flag2 ≡ false) (fault : ℕ) (found : fault ≡ p f (take (o + n - o) (drop o v))) where
-      same : fault ≡ p f (contentOf v o n)
-      same = found ∙ ap (λ (k : ℕ). p f (take k (drop o v))) (add-sub-cancel-left o n)
+    pub field-passes : fault ≡ 0 → Passed f o n ≡ judgedField true p m last f o n
+    unfolding judgedField
+    field-passes h = rw (← numbered, not-false flag good, ← found, eq-eqb fault 0 h)
 
-      pub field-fault : (fault ≡ 0 → ⊥) → Refused fault f ≡ judgedField p v m last f o n
-      unfolding judgedField
-      field-fault h = rw (← numbered, not-false flag good, ← placed, not-false flag2 inside, ← same, ne-eqb fault 0 h)
+-- 01's form has no mark
+pub plain-marked : (f : ℕ) (s : List ℕ) → isMarked plainForm f s ≡ true
+unfolding isMarked number
+plain-marked f s = refl
 
-      pub field-passes : fault ≡ 0 → Passed f o n ≡ judgedField p v m last f o n
-      unfolding judgedField
-      field-passes h = rw (← numbered, not-false flag good, ← placed, not-false flag2 inside, ← same, eq-eqb fault 0 h)
+pub judged-plain : (p : Fault) (m last : ℕ) (s : List ℕ) (f a n : ℕ) (r : Judged) → noteAt plainForm s ≡ FieldNote f a n → r ≡ judgedField true p m last f a n
+    → r ≡ judged plainForm p m last s
+judged-plain p m last s f a n r h e = e ∙ ap (λ (b : Bool). judgedField b p m last f a n) (sym (plain-marked f s)) ∙ sym (judged-note plainForm p m last s f a n h)
 
--- A turn of a loop over notes, on plain values: n the notes, m their count of bitmaps, at the place and last the number it has come to.
-module _ (p : Test) (v n : List ℕ) (m : ℕ) where
-  pub record Going (at last k : ℕ) : Type 0 where
-    pub inside : at ≤ length n
-    pub left : length n < k + at
+-- `walk_fields`
+pub counted : (F : Form) (p : Fault) (m m′ last : ℕ) (s : List ℕ) (o : Judged) → o ≡ judged F p m last s → m ≡ m′ → o ≡ judged F p m′ last s
+counted F p m m′ last s o e h = e ∙ ap (λ (x : ℕ). judged F p x last s) h
 
-  pub going-first : headSize ≤ length n → Going headSize 0 (length n)
-  going-first h = record { inside = h; left = omega arith }
-
-  module _ (at last k : ℕ) (g : Going at last k) (o : Judged) (j : o ≡ judged p v m last (take (length n - at) (drop at n))) where
-    pub judged-here : judged p v m last (drop at n) ≡ o
-    judged-here = sym (j ∙ ap (judged p v m last) (to-end at n))
-
-    module _ (f a c : ℕ) (is : o ≡ Passed f a c) where
-      pub passed-here : judged p v m last (drop at n) ≡ Passed f a c
-      passed-here = judged-here ∙ is
-
-      pub note-here : at + fieldNoteSize ≤ length n
-      note-here = omega (arith, note-whole (drop at n) f a c (passing p v m last (drop at n) f a c passed-here .note), length-drop at n, g .inside)
-
-      pub fuel-here : k ≡ suc (k - 1)
-      fuel-here = omega (arith, note-here, g .left)
-
-      pub going-next : Going (at + fieldNoteSize) f (k - 1)
-      going-next = record { inside = note-here; left = omega (arith, note-here, g .left) }
-
--- The walk itself.
-module _ (t : Table) (r : Rule) (v n : List ℕ) where
-  abbrev p : Test
-  p = testOf t r
-
-  abbrev m : ℕ
-  m = countIn n
-
-  pub record Walking (at last k : ℕ) : Type 0 where
-    pub going : Going p v n m at last k
-    pub whole : endedBy t r v n ≡ answerOf (ending p v m k last at (drop at n))
-
-  pub walking-first : headSize ≤ length n → Walking headSize 0 (length n)
-  unfolding endedBy
-  walking-first h = record { going = going-first p v n m h; whole = refl }
-
-  module _ (at last k : ℕ) (w : Walking at last k) (o : Judged) (j : o ≡ judged p v m last (take (length n - at) (drop at n))) where
-    fuel : k ≡ suc (k - 1)
-    fuel = omega (arith, w .going .inside, w .going .left)
-
-    pub walking-refused : (x f : ℕ) → o ≡ Refused x f → WalkRefused (refusal x f at) ≡ endedBy t r v n
-    unfolding answerOf
-    walking-refused x f is =
-        let e = fuel in
-        sym (w .whole ∙ ap answerOf (ap (λ (q : ℕ). ending p v m q last at (drop at n)) e ∙ ending-bad p v m (k - 1) last at (drop at n) x f (judged-here p v n m at last k (w .going) o j ∙ is)))
-
-    pub walking-end : (u : ℕ) → o ≡ End u → Ended at u ≡ endedBy t r v n
-    unfolding answerOf
-    walking-end u is =
-        let e = fuel in
-        sym (w .whole ∙ ap answerOf (ap (λ (q : ℕ). ending p v m q last at (drop at n)) e ∙ ending-end p v m (k - 1) last at (drop at n) u (judged-here p v n m at last k (w .going) o j ∙ is)))
-
-    pub walking-next : (f a c : ℕ) → o ≡ Passed f a c → Walking (at + fieldNoteSize) f (k - 1)
-    walking-next f a c is =
-        let e = fuel-here p v n m at last k (w .going) o j f a c is in
-        record {
-          going = going-next p v n m at last k (w .going) o j f a c is;
-          whole =
-              w .whole
-              ∙ ap answerOf
-              (ap (λ (q : ℕ). ending p v m q last at (drop at n)) e
-              ∙ ending-more p v m (k - 1) last at (drop at n) f a c (passed-here p v n m at last k (w .going) o j f a c is)
-              ∙ ap (ending p v m (k - 1) f (at + fieldNoteSize)) (drop-drop fieldNoteSize at n));
-        }
-
-pub counted : (p : Test) (v : List ℕ) (m m′ last : ℕ) (s : List ℕ) (o : Judged) → o ≡ judged p v m last s → m ≡ m′ → o ≡ judged p v m′ last s
-counted p v m m′ last s o e h = e ∙ ap (λ (x : ℕ). judged p v x last s) h
-
--- the rule that asks nothing
-pub any-is : (t : Table) → testOf t Any ≡ any
-unfolding testOf
-any-is t = refl
-
-pub judged-any : (t : Table) (v : List ℕ) (m m′ last : ℕ) (s : List ℕ) (o : Judged) → o ≡ judged (testOf t Any) v m last s → m ≡ m′ → o ≡ judged any v m′ last s
-judged-any t v m m′ last s o e h = counted any v m m′ last s o (e ∙ ap (λ (p : Test). judged p v m last s) (any-is t)) h
-
--- `fault_of`: what holds by the rule that an arm names holds by the rule that was given
-pub rule-is : (t : Table) (r k : Rule) (f : ℕ) (s : List ℕ) (n : ℕ) → r ≡ k → n ≡ testOf t k f s → n ≡ testOf t r f s
-rule-is t r k f s n e h = h ∙ ap (λ (x : Rule). testOf t x f s) (sym e)
+pub refused-none : (w : Walked) (r : Refusal) (es : List Entry) → w ≡ WalkRefused r → noFields ≡ fieldsOn w es
+unfolding fieldsOn
+refused-none w r es e = rw e
 
 -- `walk`
-module _ (t : Table) (r : Rule) (v n : List ℕ) (fault : ℕ) (found : fault ≡ headNumber n) where
-  pub walk-head : (fault ≡ 0 → ⊥) → WalkRefused (plain fault) ≡ walkedBy t r v n
-  unfolding walkedBy walked answerOf
+module _ (d : Dialect) (p : Fault) (n : List ℕ) (fault : ℕ) (found : fault ≡ headNumber (d .most) n) where
+  pub walk-head : (fault ≡ 0 → ⊥) → WalkRefused (plain fault) ≡ walked d p n
+  unfolding walked
   walk-head h = rw (← found, ne-eqb fault 0 h)
 
-  pub walk-ended : (w : Walked) → fault ≡ 0 → w ≡ endedBy t r v n → w ≡ walkedBy t r v n
-  unfolding walkedBy walked endedBy
+  pub walk-ended : (w : Walked) → fault ≡ 0 → w ≡ ending (d .form) p (countIn n) (length n) 0 headSize (drop headSize n) → w ≡ walked d p n
+  unfolding walked
   walk-ended w h e = rw (← found, eq-eqb fault 0 h) e
 
-pub head-long : (n : List ℕ) (fault : ℕ) → fault ≡ headNumber n → fault ≡ 0 → headSize ≤ length n
-unfolding headNumber
-head-long n fault e z =
-    by-le headSize (length n) (λ h. h)
-    (λ h. let q : _≡_ {A = ℕ} 0 9 = sym z ∙ e ∙ rw (lt-leb headSize (length n) h) in absurd (omega arith))
+  pub none-named : (fault ≡ 0 → ⊥) → noFields ≡ fieldsIn d p n
+  unfolding fieldsIn fieldsOn
+  none-named h = rw (fieldsIn, ← walk-head h)
+
+  pub all-named : (w : Walked) (s : List ℕ) → fault ≡ 0 → w ≡ ending (d .form) p (countIn n) (length n) 0 headSize (drop headSize n)
+      → s ≡ fieldsOn w (entriesIn d p n) → s ≡ fieldsIn d p n
+  unfolding fieldsIn
+  all-named w s h e i = i ∙ ap (λ (x : Walked). fieldsOn x (entriesIn d p n)) (walk-ended w h e)

@@ -1,9 +1,5 @@
-pub mod Agreeing
 pub mod Ends
-pub mod Folds
 pub mod Heads
+pub mod Loops
+pub mod Naming
 pub mod Steps
-pub mod Weaker
-pub mod Written
-pub mod Answered
-pub mod Tables

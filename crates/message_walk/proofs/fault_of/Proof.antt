@@ -1,47 +1,46 @@
--- Each arm passes on what it called.
+-- The place first, and then the content.
 use Prim.Native.Nat.{_-_}
-use Rattle.message_walk.specs.Answers.{testOf}
-use Rattle.message_walk.proofs.Ends.{rule-is}
+use Rattle.message_walk.proofs.Ends.{inside-of, fault-outside, fault-inside}
+use native.Mathlib.Omega.{arith}
 use borrow.Author.Needs.{needs}
 use Rattle.message_walk.proofs.fault_of.Statement.{statement}
 use Rattle.message_walk.proofs.fault_of.Tie as tie
+use Rattle.message_walk.proofs.content_fault.Reads as content-fault-reads
+use Rattle.message_walk.proofs.is_inside.Reads as is-inside-reads
 
-enum-told : tie.Need-enum-told
-enum-told c = search needs
-
-enum-told-2 : tie.Need-enum-told-2
-enum-told-2 c = search needs
-
-exact-fault-requires : tie.Need-exact-fault-requires
-exact-fault-requires c κs = search needs
-
-enum-told-3 : tie.Need-enum-told-3
-enum-told-3 c = search needs
-
-clean-fault-requires : tie.Need-clean-fault-requires
-clean-fault-requires c κs = search needs
+is-inside-requires : tie.Need-is-inside-requires
+is-inside-requires c κs = search needs
 
 returns : tie.Need-returns
-unfolding testOf
-returns c = search (rule-is, needs)
+returns c = search (fault-outside, needs)
+
+add-end : tie.Need-add-end
+add-end c = let a = c .before .before .before .before .args in omega (arith, inside-of (a .offset) (a .length) _ _ (c .before .is-inside .ensures) (c .if1 .left))
+
+sub-content-fault : tie.Need-sub-content-fault
+sub-content-fault c = search needs
+
+part-content-fault-start : tie.Need-part-content-fault-start
+part-content-fault-start c = search needs
+
+part-content-fault-end : tie.Need-part-content-fault-end
+part-content-fault-end c = inside-of _ _ _ _ (c .before .is-inside .ensures) (c .if1 .left)
+
+content-fault-requires : tie.Need-content-fault-requires
+content-fault-requires c κs = search needs
 
 returns-2 : tie.Need-returns-2
-unfolding testOf
-returns-2 c = search (rule-is, needs)
-
-returns-3 : tie.Need-returns-3
-unfolding testOf
-returns-3 c = search (rule-is, needs)
+returns-2 c = search (fault-inside, needs)
 
 pub fault-of-spec : {M : Type 1} → statement M
 fault-of-spec =
     tie.close
     (tie.spec
-    enum-told
-    enum-told-2
-    exact-fault-requires
-    enum-told-3
-    clean-fault-requires
+    is-inside-requires
     returns
-    returns-2
-    returns-3)
+    add-end
+    sub-content-fault
+    part-content-fault-start
+    part-content-fault-end
+    content-fault-requires
+    returns-2)

@@ -1,36 +1,31 @@
 -- One law for each end, in Ends.
 use Prim.Native.Nat.{_-_}
-use Rattle.message_walk.proofs.Ends.{head-short, head-kind, head-count, head-mti, head-good}
+use Rattle.message_walk.proofs.Ends.{head-not, head-none, head-many, head-mti, head-good}
 use borrow.Author.Needs.{needs}
 use Rattle.message_walk.proofs.head_fault.Statement.{statement}
 use Rattle.message_walk.proofs.head_fault.Tie as tie
+use Rattle.message_notes.proofs.count_in.Reads as count-in-reads
+use Rattle.message_notes.proofs.is_head.Reads as is-head-reads
+use Rattle.message_notes.proofs.mti_in.Reads as mti-in-reads
+use Rattle.octets.proofs.all_between.Reads as all-between-reads
+
+is-head-requires : tie.Need-is-head-requires
+is-head-requires c κs = search needs
 
 returns : tie.Need-returns
-returns c = search (head-short, needs)
+returns c = search (head-not, needs)
 
-shared-slice-read-if2 : tie.Need-shared-slice-read-if2
-shared-slice-read-if2 c = search needs
+count-in-requires : tie.Need-count-in-requires
+count-in-requires c κs = search needs
 
 returns-2 : tie.Need-returns-2
-returns-2 c = search (head-kind, needs)
-
-shared-slice-read-is-between : tie.Need-shared-slice-read-is-between
-shared-slice-read-is-between c = search needs
-
-is-between-requires : tie.Need-is-between-requires
-is-between-requires c κs = search needs
+returns-2 c = search (head-none, needs)
 
 returns-3 : tie.Need-returns-3
-returns-3 c = search (head-count, needs)
+returns-3 c = search (head-many, needs)
 
-sub-all-between : tie.Need-sub-all-between
-sub-all-between c = search needs
-
-part-all-between-start : tie.Need-part-all-between-start
-part-all-between-start c = search needs
-
-part-all-between-end : tie.Need-part-all-between-end
-part-all-between-end c = search needs
+mti-in-requires : tie.Need-mti-in-requires
+mti-in-requires c κs = search needs
 
 all-between-requires : tie.Need-all-between-requires
 all-between-requires c κs = search needs
@@ -45,15 +40,12 @@ pub head-fault-spec : {M : Type 1} → statement M
 head-fault-spec =
     tie.close
     (tie.spec
+    is-head-requires
     returns
-    shared-slice-read-if2
+    count-in-requires
     returns-2
-    shared-slice-read-is-between
-    is-between-requires
     returns-3
-    sub-all-between
-    part-all-between-start
-    part-all-between-end
+    mti-in-requires
     all-between-requires
     returns-4
     returns-5)

@@ -4,6 +4,7 @@ use Rattle.message_walk.proofs.Ends.{not-above, no-number, in-bitmaps}
 use borrow.Author.Needs.{needs}
 use Rattle.message_walk.proofs.is_number_allowed.Statement.{statement}
 use Rattle.message_walk.proofs.is_number_allowed.Tie as tie
+use Rattle.bitmap.proofs.is_field.Reads as is-field-reads
 
 returns : tie.Need-returns
 returns c = search (not-above, needs)

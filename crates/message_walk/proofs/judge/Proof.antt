@@ -1,10 +1,13 @@
--- One law for each kind of note, in Steps.
+-- One law for each kind of note, in Steps; a note of 01's form has no mark.
 use mathlib.Core.Path.{sym, _∙_}
 use Prim.Native.Nat.{_-_}
-use Rattle.message_walk.proofs.Steps.{judged-malformed, judged-end, judged-note}
+use Rattle.message_walk.proofs.Steps.{judged-malformed, judged-end}
+use Rattle.message_walk.proofs.Ends.{judged-plain}
 use borrow.Author.Needs.{needs}
 use Rattle.message_walk.proofs.judge.Statement.{statement}
 use Rattle.message_walk.proofs.judge.Tie as tie
+use Rattle.message_notes.proofs.read_note.Reads as read-note-reads
+use Rattle.message_walk.proofs.judge_field.Reads as judge-field-reads
 
 read-note-requires : tie.Need-read-note-requires
 read-note-requires c κs = search needs
@@ -28,9 +31,9 @@ returns-2 : tie.Need-returns-2
 returns-2 c = sym (judged-end _ _ _ _ _ _ (sym (c .before .before .before .read-note .ensures) ∙ c .before .said .given .1))
 
 returns-3 : tie.Need-returns-3
-returns-3 c =
+returns-3 c = 
     let k = c .before in
-    c .judge-field .ensures ∙ sym (judged-note _ _ _ _ _ _ _ _ (sym (k .before .before .before .read-note .ensures) ∙ k .before .number .given .1))
+    judged-plain _ _ _ _ _ _ _ _ (sym (k .before .before .before .read-note .ensures) ∙ k .before .number .given .1) (c .judge-field .ensures)
 
 pub judge-spec : {M : Type 1} → statement M
 judge-spec =

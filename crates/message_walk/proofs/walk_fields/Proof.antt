@@ -1,25 +1,72 @@
--- The whole ends as the rest of the walk does from the place and the number that the loop has come to (Ends).
+-- The walk ends as the rest of it does from where the loop has come to, and the set holds what was passed so far (Loops, Naming).
 use Prim.Native.Nat.{ℕ, _+_, _-_}
-use lib.ListN.{length}
-use Rattle.field_table.specs.Codes.{decoded}
-use Rattle.message_walk.specs.Answers.{testOf}
-use Rattle.message_walk.proofs.Ends.{Walking, walking-first, walking-refused, walking-end, walking-next, note-here, counted}
-use borrow.Author.Needs.{needs}
+use mathlib.Core.Path.{_∙_}
+use mathlib.Core.List.{List}
+use lib.ListN.{length, drop}
 use native.Mathlib.Omega.{arith}
+use Rattle.field_table.specs.Codes.{decoded}
+use Rattle.message_language.specs.Language.{Entry}
+use Rattle.message_notes.specs.Dialect.{plainForm, headSize, dialect}
+use Rattle.message_notes.specs.Notes.{countIn}
+use Rattle.message_walk.specs.Walk.{Fault, ending, entriesIn, fieldsOn}
+use Rattle.message_walk.specs.Faults.{faultBy}
+use Rattle.message_walk.proofs.Ends.{counted, refused-none}
+use Rattle.message_walk.proofs.Loops.{Walking, walking-first, Turn, turn-refused, turn-end, turn-done, turn-room, turn-here, turn-next}
+use Rattle.message_walk.proofs.Naming.{Naming, naming-first, naming-next, naming-done, numbers-are, entries-good}
+use borrow.Author.Needs.{needs}
 use Rattle.message_walk.proofs.walk_fields.Statement.{statement}
 use Rattle.message_walk.proofs.walk_fields.Tie as tie
+use Rattle.bitmap.proofs.FieldSet.none.Reads as none-reads
+use Rattle.bitmap.proofs.FieldSet.with.Reads as with-reads
+use Rattle.message_notes.proofs.count_in.Reads as count-in-reads
+use Rattle.message_walk.proofs.judge.Reads as judge-reads
+use Rattle.message_walk.proofs.refused_at.Reads as refused-at-reads
 
 abbrev Inv-loop : tie.InvT-loop
-Inv-loop values notes rule table count last₀ at₀ last at = (k : ℕ) × Walking (decoded table) rule values notes at last k
+Inv-loop values notes rule table count fields₀ last₀ at₀ fields last at = 
+    Walking plainForm (faultBy (decoded table) values rule) notes
+    (ending plainForm (faultBy (decoded table) values rule) (countIn notes) (length notes) 0 headSize (drop headSize notes))
+    (Naming (entriesIn (dialect (decoded table)) (faultBy (decoded table) values rule) notes) (fields .bits))
+    at last
 
 abbrev μ-loop : tie.MeasureT-loop
-μ-loop values notes rule table count last₀ at₀ last at = length notes + 1 - at
+μ-loop values notes rule table count fields₀ last₀ at₀ fields last at = length notes + 1 - at
+
+-- the turn of the loop in which a note was judged
+abbrev start : tie.At-loop Inv-loop μ-loop → tie.Start Inv-loop μ-loop
+start l = l .before .before .before .before .before .before
+
+abbrev here : tie.After-judge Inv-loop μ-loop → tie.At-loop Inv-loop μ-loop
+here c = c .before .before .before
+
+abbrev fault : tie.At-loop Inv-loop μ-loop → Fault
+fault l = faultBy (decoded (start l .args .table .now)) (start l .args .values .now) (start l .args .rule)
+
+abbrev notes : tie.At-loop Inv-loop μ-loop → List ℕ
+notes l = start l .args .notes .now
+
+abbrev entries : tie.At-loop Inv-loop μ-loop → List Entry
+entries l = entriesIn (dialect (decoded (start l .args .table .now))) (fault l) (notes l)
+
+turn-at :
+    (c : tie.After-judge Inv-loop μ-loop) →
+    Turn plainForm (fault (here c)) (notes (here c))
+    (ending plainForm (fault (here c)) (countIn (notes (here c))) (length (notes (here c))) 0 headSize (drop headSize (notes (here c))))
+    (Naming (entries (here c)) (here c .loop .fields .bits))
+    (here c .loop .at)
+    (here c .loop .last)
+    (c .judge .result)
+turn-at c = record { loop = here c .loop .inv; judging = counted _ _ _ _ _ _ _ (c .judge .ensures) (here c .before .before .count-in .ensures) }
 
 count-in-requires : tie.Need-count-in-requires Inv-loop μ-loop
 count-in-requires c κs = search needs
 
+none-requires : tie.Need-none-requires Inv-loop μ-loop
+none-requires c κs = search needs
+
 loop-holds : tie.Need-loop-holds Inv-loop μ-loop
-loop-holds c = (length (c .before .before .before .before .args .notes .now), walking-first _ _ _ _ (c .before .before .before .before .pre))
+unfolding entriesIn
+loop-holds c = walking-first (c .before .before .before .before .before .pre) (naming-first (c .none .ensures))
 
 sub-judge : tie.Need-sub-judge Inv-loop μ-loop
 sub-judge c = search needs
@@ -36,69 +83,48 @@ judge-requires c κs = search needs
 enum-known-number : tie.Need-enum-known-number Inv-loop μ-loop
 enum-known-number c = search needs
 
+refused-at-requires : tie.Need-refused-at-requires Inv-loop μ-loop
+refused-at-requires c κs = search needs
+
 returns : tie.Need-returns Inv-loop μ-loop
-returns c =
-    let j = c .before .before .before in
-    let l = j .before .before .before in
-    let a = l .before .before .before .before .before .args in
-    let v = a .values .now in
-    let n = a .notes .now in
-    let w = l .loop .inv .1 in
-    let e = counted _ v _ _ _ _ _ (j .judge .ensures) (l .before .count-in .ensures) in
-    walking-refused (decoded (a .table .now)) (a .rule) v n _ _ _ w _ e _ _ (c .before .number .given .1)
+returns c = 
+    let k = c .before .before in
+    let r = c .refused-at .ensures in
+    (r .0 ∙ turn-refused (turn-at (k .before .before)) (k .number .given .1), r .1 ∙ refused-none _ _ _ (r .0))
 
 enum-known-said : tie.Need-enum-known-said Inv-loop μ-loop
 enum-known-said c = search needs
 
 returns-2 : tie.Need-returns-2 Inv-loop μ-loop
-returns-2 c =
-    let j = c .before .before .before in
-    let l = j .before .before .before in
-    let a = l .before .before .before .before .before .args in
-    let v = a .values .now in
-    let n = a .notes .now in
-    let w = l .loop .inv .1 in
-    let e = counted _ v _ _ _ _ _ (j .judge .ensures) (l .before .count-in .ensures) in
-    walking-end (decoded (a .table .now)) (a .rule) v n _ _ _ w _ e _ (c .before .said .given .1)
+unfolding fieldsOn
+returns-2 c = 
+    let k = turn-at (c .before .before .before) in
+    let is = c .before .said .given .1 in
+    (turn-end k is, naming-done (numbers-are _ _ _ (entries-good _ _ _)) (turn-done k is))
 
 enum-known-number-2 : tie.Need-enum-known-number-2 Inv-loop μ-loop
 enum-known-number-2 c = search needs
 
+with-requires : tie.Need-with-requires Inv-loop μ-loop
+with-requires c κs = search needs
+
 add-at : tie.Need-add-at Inv-loop μ-loop
-add-at c =
-    let j = c .before .before .before in
-    let l = j .before .before .before in
-    let a = l .before .before .before .before .before .args in
-    let v = a .values .now in
-    let n = a .notes .now in
-    let w = l .loop .inv .1 in
-    let e = counted _ v _ _ _ _ _ (j .judge .ensures) (l .before .count-in .ensures) in
-    omega (arith, note-here (testOf (decoded (a .table .now)) (a .rule)) v n _ _ _ _ (w .going) _ e _ _ _ (c .before .number2 .given .1))
+add-at c = let k = c .before .before in omega (arith, turn-room (turn-at (k .before .before)) (k .number2 .given .1), start (here (k .before .before)) .good .1 .0)
 
 loop-less : tie.Need-loop-less Inv-loop μ-loop
-loop-less c =
-    let j = c .before .before .before in
-    let l = j .before .before .before in
-    let a = l .before .before .before .before .before .args in
-    let v = a .values .now in
-    let n = a .notes .now in
-    let w = l .loop .inv .1 in
-    let e = counted _ v _ _ _ _ _ (j .judge .ensures) (l .before .count-in .ensures) in
-    omega (arith, note-here (testOf (decoded (a .table .now)) (a .rule)) v n _ _ _ _ (w .going) _ e _ _ _ (c .before .number2 .given .1))
+loop-less c = let k = c .before .before in omega (arith, turn-room (turn-at (k .before .before)) (k .number2 .given .1))
 
 loop-again : tie.Need-loop-again Inv-loop μ-loop
-loop-again c =
-    let j = c .before .before .before in
-    let l = j .before .before .before in
-    let a = l .before .before .before .before .before .args in
-    let v = a .values .now in
-    let n = a .notes .now in
-    let w = l .loop .inv .1 in
-    let e = counted _ v _ _ _ _ _ (j .judge .ensures) (l .before .count-in .ensures) in
-    (l .loop .inv .0 - 1, walking-next (decoded (a .table .now)) (a .rule) v n _ _ _ w _ e _ _ _ (c .before .number2 .given .1))
+loop-again c = 
+    let k = turn-at (c .before .before .before .before) in
+    let is = c .before .before .number2 .given .1 in
+    turn-next k is (naming-next (turn-here k is) (c .with .ensures))
+
+refused-at-requires-2 : tie.Need-refused-at-requires-2 Inv-loop μ-loop
+refused-at-requires-2 c κs = search needs
 
 returns-3 : tie.Need-returns-3 Inv-loop μ-loop
-returns-3 c = absurd (omega (arith, c .loop-test .left, c .before .loop .inv .1 .going .inside))
+returns-3 c = absurd (omega (arith, c .before .loop-test .left, c .before .before .loop .inv .inside))
 
 pub walk-fields-spec : {M : Type 1} → statement M
 walk-fields-spec =
@@ -107,17 +133,21 @@ walk-fields-spec =
     Inv-loop
     μ-loop
     count-in-requires
+    none-requires
     loop-holds
     sub-judge
     part-judge-start
     part-judge-end
     judge-requires
     enum-known-number
+    refused-at-requires
     returns
     enum-known-said
     returns-2
     enum-known-number-2
+    with-requires
     add-at
     loop-less
     loop-again
+    refused-at-requires-2
     returns-3)

@@ -1,0 +1,49 @@
+-- Each arm passes on what it called.
+use Prim.Native.Nat.{_-_}
+use Rattle.message_walk.specs.Faults.{asked}
+use Rattle.message_walk.proofs.Ends.{rule-is}
+use borrow.Author.Needs.{needs}
+use Rattle.message_walk.proofs.content_fault.Statement.{statement}
+use Rattle.message_walk.proofs.content_fault.Tie as tie
+use Rattle.field_write.proofs.clean_fault.Reads as clean-fault-reads
+use Rattle.field_write.proofs.exact_fault.Reads as exact-fault-reads
+
+enum-told : tie.Need-enum-told
+enum-told c = search needs
+
+enum-told-2 : tie.Need-enum-told-2
+enum-told-2 c = search needs
+
+exact-fault-requires : tie.Need-exact-fault-requires
+exact-fault-requires c κs = search needs
+
+enum-told-3 : tie.Need-enum-told-3
+enum-told-3 c = search needs
+
+clean-fault-requires : tie.Need-clean-fault-requires
+clean-fault-requires c κs = search needs
+
+returns : tie.Need-returns
+unfolding asked
+returns c = search (rule-is, needs)
+
+returns-2 : tie.Need-returns-2
+unfolding asked
+returns-2 c = search (rule-is, needs)
+
+returns-3 : tie.Need-returns-3
+unfolding asked
+returns-3 c = search (rule-is, needs)
+
+pub content-fault-spec : {M : Type 1} → statement M
+content-fault-spec =
+    tie.close
+    (tie.spec
+    enum-told
+    enum-told-2
+    exact-fault-requires
+    enum-told-3
+    clean-fault-requires
+    returns
+    returns-2
+    returns-3)
