@@ -1,5 +1,9 @@
+pub mod Agreeing
 pub mod Ends
 pub mod Heads
 pub mod Loops
 pub mod Naming
 pub mod Steps
+pub mod Weaker
+pub mod Within
+pub mod Written
