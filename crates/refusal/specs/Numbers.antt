@@ -108,6 +108,6 @@ lengthNeedsDigits = 25
 abbrev pub inputTooLong : ℕ
 inputTooLong = 26
 
--- 27: a bitmap more than is taken. While three are taken, no input has it
+-- 27, which 01 does not have: there is a bitmap more than is taken; while three are taken, no input has it
 abbrev pub bitmapOverMost : ℕ
 bitmapOverMost = 27
