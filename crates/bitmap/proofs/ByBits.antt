@@ -27,7 +27,7 @@ all-take p [] (suc n) a = refl
 all-take p (x ∷ l) (suc n) a = rw (both-left (p x) (all p l) a) (all-take p l n (both-right (p x) (all p l) a))
 
 -- a byte's first bit is as it was chained, and the others are the set's
-bit-on : (on : Bool) (x : ℕ) → bitIn (chain on x) 0 ≡ on
+pub bit-on : (on : Bool) (x : ℕ) → bitIn (chain on x) 0 ≡ on
 bit-on true x = ap (λ (n : ℕ). eqb n 1) (let e : (128 * 1 + x % 128) / 128 % 2 ≡ 1 = omega arith in e)
 bit-on false x = ap (λ (n : ℕ). eqb n 1) (let e : (128 * 0 + x % 128) / 128 % 2 ≡ 0 = omega arith in e)
 
@@ -42,7 +42,7 @@ other-bit b x (suc (suc (suc (suc (suc (suc zero)))))) h l u = omega arith
 other-bit b x (suc (suc (suc (suc (suc (suc (suc zero))))))) h l u = omega arith
 other-bit b x (suc (suc (suc (suc (suc (suc (suc (suc j)))))))) h l u = absurd (omega arith)
 
-bit-off : (on : Bool) (x j : ℕ) → 1 ≤ j → j < 8 → bitIn (chain on x) j ≡ bitIn x j
+pub bit-off : (on : Bool) (x j : ℕ) → 1 ≤ j → j < 8 → bitIn (chain on x) j ≡ bitIn x j
 bit-off true x j l u = ap (λ (n : ℕ). eqb n 1) (other-bit 1 x j (omega arith) l u)
 bit-off false x j l u = ap (λ (n : ℕ). eqb n 1) (other-bit 0 x j (omega arith) l u)
 

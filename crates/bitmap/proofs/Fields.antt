@@ -1,5 +1,5 @@
 -- The list of the fields present: a number at a time, and how many there are. Assumes nothing.
-use Prim.Native.Nat.{ℕ, zero, suc, _+_, _-_, _*_, _≤_, _<_}
+use Prim.Native.Nat.{ℕ, zero, suc, _+_, _-_, _*_, _≤_}
 use mathlib.Core.Path.{_≡_, refl, sym, ap, _∙_}
 use mathlib.Core.Bool.{Bool, true, false}
 use mathlib.Core.List.{List, [], _∷_, _++_, append-nil}
@@ -12,23 +12,6 @@ use Rattle.bitmap.specs.Bits.{bitOf}
 use Rattle.bitmap.specs.Bitmaps.{isField, hasField, fieldsFrom, fieldsOf}
 use Rattle.bitmap.proofs.Bits.{bit-past}
 
--- a number more, with the counter as a loop from f to end has it
-module _ (p : ℕ → Bool) (end f : ℕ) (more : f < end) where
-  less : end - f ≡ suc (end - (f + 1))
-  less = omega arith
-
-  pub fields-skip : p f ≡ false → fieldsFrom p (end - f) f ≡ fieldsFrom p (end - (f + 1)) (f + 1)
-  unfolding fieldsFrom
-  fields-skip h = rw (less, fieldsFrom, h)
-
-  pub fields-here : p f ≡ true → fieldsFrom p (end - f) f ≡ f ∷ fieldsFrom p (end - (f + 1)) (f + 1)
-  unfolding fieldsFrom
-  fields-here h = rw (less, fieldsFrom, h)
-
-pub fields-end : (p : ℕ → Bool) (end f : ℕ) → end ≤ f → fieldsFrom p (end - f) f ≡ []
-unfolding fieldsFrom
-fields-end p end f h = let z : end - f ≡ 0 = omega arith in rw z
-
 -- they are fields
 pub fields-are : (s : List ℕ) (k f : ℕ) → all isField (fieldsFrom (hasField s) k f) ≡ true
 unfolding fieldsFrom hasField
@@ -39,14 +22,14 @@ fields-are s (suc k) f =
     (λ n. rw (fieldsFrom, n) (fields-are s k (f + 1)))
 
 -- how many there are
-fields-most : (p : ℕ → Bool) (k f : ℕ) → length (fieldsFrom p k f) ≤ k
+pub fields-most : (p : ℕ → Bool) (k f : ℕ) → length (fieldsFrom p k f) ≤ k
 unfolding fieldsFrom
 fields-most p zero f = omega arith
 fields-most p (suc k) f =
     let h = fields-most p k (f + 1) in
     by-bool (p f) (λ t. rw (fieldsFrom, t) (omega arith)) (λ t. rw (fieldsFrom, t) (omega arith))
 
-fields-split : (p : ℕ → Bool) (k j f : ℕ) → fieldsFrom p (k + j) f ≡ fieldsFrom p k f ++ fieldsFrom p j (f + k)
+pub fields-split : (p : ℕ → Bool) (k j f : ℕ) → fieldsFrom p (k + j) f ≡ fieldsFrom p k f ++ fieldsFrom p j (f + k)
 unfolding fieldsFrom
 fields-split p zero j f = rw (zero-add j, add-zero f)
 fields-split p (suc k) j f =
@@ -63,9 +46,9 @@ unfolding fieldsFrom
 fields-none p zero f n = refl
 fields-none p (suc k) f n = rw (fieldsFrom, n f (omega arith)) (fields-none p k (f + 1) (λ g l. n g (omega arith)))
 
-past-none : (s : List ℕ) (m g : ℕ) → length s ≤ 8 * m → 64 * m + 1 ≤ g → hasField s g ≡ false
+pub fields-past : (s : List ℕ) (i k : ℕ) → length s ≤ i → fieldsFrom (hasField s) k (8 * i + 1) ≡ []
 unfolding hasField
-past-none s m g h l = rw (← bit-past s g (λ (z : g ≡ 0). omega arith) (omega arith)) (both-none (isField g))
+fields-past s i k h = fields-none (hasField s) k (8 * i + 1) (λ g l. rw (← bit-past s g (λ (z : g ≡ 0). omega arith) (omega arith)) (both-none (isField g)))
   where
     both-none : (a : Bool) → both a false ≡ false
     both-none true = refl
@@ -75,9 +58,10 @@ pub fields-in : (s : List ℕ) (m : ℕ) → m ≤ 3 → length s ≤ 8 * m → 
 unfolding fieldsOf
 fields-in s m few h =
     let e : 64 * m + (192 - 64 * m) ≡ 192 = omega arith in
+    let p : 8 * (8 * m) + 1 ≡ 1 + 64 * m = omega arith in
     ap (λ (k : ℕ). fieldsFrom (hasField s) k 1) (sym e)
     ∙ fields-split (hasField s) (64 * m) (192 - 64 * m) 1
-    ∙ ap (λ (fs : List ℕ). fieldsFrom (hasField s) (64 * m) 1 ++ fs) (fields-none (hasField s) (192 - 64 * m) (1 + 64 * m) (λ g l. past-none s m g h (omega arith)))
+    ∙ ap (λ (fs : List ℕ). fieldsFrom (hasField s) (64 * m) 1 ++ fs) (rw p at (fields-past s (8 * m) (192 - 64 * m) h))
     ∙ append-nil (fieldsFrom (hasField s) (64 * m) 1)
 
 fields-one : (p : ℕ → Bool) (f : ℕ) → p f ≡ false → fieldsFrom p 1 f ≡ []

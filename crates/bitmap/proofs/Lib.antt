@@ -3,5 +3,4 @@ pub mod ByBits
 pub mod Fields
 pub mod Maps
 pub mod Sets
-pub mod Nexts
 pub mod Listed

@@ -44,21 +44,7 @@ pub field-bit : (flag r : Bool) (s : List ℕ) (f : ℕ) → flag ≡ isField f 
 unfolding hasField
 field-bit flag r s f e t h = both-goes flag (isField f) (bitOf s f) r e t h
 
--- the ends of `count_of`
-module _ (s : List ℕ) (flag : Bool) (first : flag ≡ bitOf s 1) where
-  pub count-one : not flag ≡ true → 1 ≡ countOf s
-  unfolding countOf
-  count-one t = rw (← first, not-true flag t)
-
-  module _ (on : not flag ≡ false) (flag2 : Bool) (second : flag2 ≡ bitOf s 65) where
-    pub count-three : flag2 ≡ true → 3 ≡ countOf s
-    unfolding countOf
-    count-three t = rw (← first, not-false flag on, ← second, t)
-
-    pub count-two : flag2 ≡ false → 2 ≡ countOf s
-    unfolding countOf
-    count-two t = rw (← first, not-false flag on, ← second, t)
-
+-- how many bitmaps there are
 pub count-most : (s : List ℕ) → countOf s ≤ 3
 unfolding countOf
 count-most s =

@@ -5,8 +5,6 @@
 --   countOf s         == how many bitmaps there are, as bits 1 and 65 say
 --   fieldsFrom p k f  == those of the k numbers from f on that pass p, rising
 --   fieldsOf s m      == the fields present in the m bitmaps s, rising
---   nextFrom p k f    == the first of the k numbers from f on that passes p; f + k where none does
---   nextField s f     == the first field from number f on that is present in s; 193, or f where it is greater, where there is none
 --   noFields          == the empty set
 --   withField s f     == the set s with the field f; s where f is no field
 --   isIn g fs         == g is one of the numbers fs
@@ -17,15 +15,17 @@
 --   chain on x        == the byte x with its first bit as `on` says
 --   mapByte m i x     == byte i of them, made from the byte x of the set
 --   mapsFrom m s k i  == k bytes of them, from byte i on
+--   unchained i x     == byte i of bitmaps, x, without bits 1 and 65, which are no fields
+--   numbersIn x f     == the numbers of the bits set in the byte x, whose high bit is number f, rising
 --
 -- Assumes nothing: these are definitions.
 use Prim.Native.Nat.{ℕ, zero, suc, _+_, _-_, _*_, _/_, _%_}
 use mathlib.Core.Bool.{Bool, true, false, cond, not}
-use mathlib.Core.List.{List, [], _∷_, _++_}
+use mathlib.Core.List.{List, [], _∷_, _++_, map}
 use lib.ListN.{getD, set, replicate}
 use lib.Dec.{eqb, leb}
 use Rattle.octets.specs.Lists.{both, either, between}
-use Rattle.bitmap.specs.Bits.{bit, bitOf, bytesOf, withBit}
+use Rattle.bitmap.specs.Bits.{bit, bitIn, bitOf, bytesOf, withBit}
 
 -- 01: "Bits 1 and 65 are no fields."
 unfoldable pub isField : ℕ → Bool
@@ -44,13 +44,6 @@ fieldsFrom p (suc k) f = elim (p f) [ true ↦ f ∷ fieldsFrom p k (f + 1) | fa
 
 unfoldable pub fieldsOf : List ℕ → ℕ → List ℕ
 fieldsOf s m = fieldsFrom (hasField s) (64 * m) 1
-
-unfoldable pub nextFrom : (ℕ → Bool) → ℕ → ℕ → ℕ
-nextFrom p zero f = f
-nextFrom p (suc k) f = elim (p f) [ true ↦ f | false ↦ nextFrom p k (f + 1) ]
-
-unfoldable pub nextField : List ℕ → ℕ → ℕ
-nextField s f = nextFrom (hasField s) (193 - f) f
 
 abbrev pub noFields : List ℕ
 noFields = replicate 24 0
@@ -90,3 +83,10 @@ mapByte m i x =
 unfoldable pub mapsFrom : ℕ → List ℕ → ℕ → ℕ → List ℕ
 mapsFrom m s zero i = []
 mapsFrom m s (suc k) i = mapByte m i (getD s i 0) ∷ mapsFrom m s k (suc i)
+
+-- Byte by byte, as they are listed.
+unfoldable pub unchained : ℕ → ℕ → ℕ
+unchained i x = cond (eqb i 0) (chain false x) (cond (eqb i 8) (chain false x) x)
+
+unfoldable pub numbersIn : ℕ → ℕ → List ℕ
+numbersIn x f = map (λ i. f + i) (fieldsFrom (bitIn x) 8 0)

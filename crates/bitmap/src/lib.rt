@@ -3,9 +3,9 @@ ghost use mathlib.Core.Path.{_≡_};
 ghost use Prim.Native.Nat.{_-_, _<_, _≤_, min};
 ghost use mathlib.Core.Bool.{true};
 ghost use lib.ListN.{length, replicate};
-ghost use Rattle.octets.specs.Lists.{all, between, lay};
-ghost use Rattle.bitmap.specs.Bits.{bitIn, bitOf, withBit};
-ghost use Rattle.bitmap.specs.Bitmaps.{isField, hasField, countOf, fieldsOf, nextFrom, nextField, noFields, withField, chain, mapByte, mapsFrom, mapsFor};
+ghost use Rattle.octets.specs.Lists.{all, between, lay, placed};
+ghost use Rattle.bitmap.specs.Bits.{bitOf, withBit};
+ghost use Rattle.bitmap.specs.Bitmaps.{isField, hasField, fieldsOf, unchained, numbersIn, noFields, withField, chain, mapByte, mapsFrom, mapsFor};
 
 // A set of fields, as 24 bytes of bits placed as in the bitmaps.
 pub struct FieldSet {
@@ -81,13 +81,6 @@ impl Bitmaps {
         }
     }
 
-    // How many bitmaps there are.
-    pub fn how_many(self) -> usize
-        ensures { λ r. ⌜ r ≡ self .count ⌝ }
-    {
-        self.count
-    }
-
     // Their bytes, eight for each, and zero after them.
     pub fn to_bytes(self) -> [u8; 24]
         ensures { λ r. ⌜ r ≡ self .bytes ⌝ }
@@ -119,83 +112,66 @@ pub fn has_field(bits: &[u8], field: usize) -> bool
     is_set(bits, field)
 }
 
-// The numbers of the fields present, rising.
+// The numbers of the fields present, rising: a byte at a time, and one without a bit is passed over at once.
 pub fn list_fields(bits: &[u8]) -> FieldList
     ensures count { λ r. ⌜ r .count ≡ length (fieldsOf (now (bits .entry)) 3) ⌝ }
     ensures numbers { λ r. ⌜ r .numbers ≡ lay (fieldsOf (now (bits .entry)) 3) (replicate 192 0) ⌝ }
 {
+    let end = end_of(bits.len());
     let mut numbers = [0u8; 192];
-    let mut n = 0;
-    let mut f = next_field(bits, 1);
-    while f < 193 {
-        numbers[n] = f as u8;
-        n += 1;
-        f = next_field(bits, f + 1);
+    let mut n: usize = 0;
+    let mut at: usize = 0;
+    while at < end {
+        let b = bits[at];
+        if b == 0 {
+            at += 1;
+        } else {
+            n += list_bits(unchain(at, b), 8 * at + 1, &mut numbers[n..]);
+            at += 1;
+        }
     }
     FieldList { count: n, numbers }
 }
 
-// The first field from number from on that is present, in bitmaps or in a set of fields: 193 where there is none more, or from where it is
-// greater still.
-pub fn next_field(bits: &[u8], from: usize) -> usize
-    ensures { λ r. ⌜ r ≡ nextField (now (bits .entry)) from ⌝ }
+// Where the bytes with fields end: with byte 24, since fields stop at 192.
+fn end_of(bytes: usize) -> usize
+    ensures { λ r. ⌜ r ≡ min bytes 24 ⌝ }
 {
-    if from == 0 {
-        return next_from(bits, 1);
+    if 24 < bytes {
+        return 24;
     }
-    next_from(bits, from)
+    bytes
 }
 
-// The same from number 1 on: a byte at a time, and in each a set bit at a time.
-fn next_from(bits: &[u8], from: usize) -> usize
-    requires { ⌜ 1 ≤ from ⌝ }
-    ensures { λ r. ⌜ r ≡ nextField (now (bits .entry)) from ⌝ }
+// Byte `at` of bitmaps, b, without bits 1 and 65, which are no fields.
+fn unchain(at: usize, b: u8) -> u8
+    ensures { λ r. ⌜ r ≡ unchained at b ⌝ }
 {
-    let mut f = from;
-    while f < 193 {
-        let k = f - 1;
-        let at = k / 8;
-        if bits.len() <= at {
-            return 193;
-        }
-        let i = next_bit(bits[at], k % 8);
-        let g = 8 * at + i + 1;
-        if i < 8 {
-            if is_field(g) {
-                return g;
-            }
-            f = g + 1;
-        } else {
-            f = g;
-        }
+    if at == 0 {
+        return chained(false, b);
     }
-    f
+    if at == 8 {
+        return chained(false, b);
+    }
+    b
 }
 
-// The first bit of a byte that is set, from bit i on, counted from the high one; 8 where there is none.
-fn next_bit(b: u8, i: usize) -> usize
-    requires { ⌜ i < 8 ⌝ }
-    ensures value { λ r. ⌜ r ≡ nextFrom (bitIn b) (8 - i) i ⌝ }
-    ensures within { λ r. ⌜ (i ≤ r) × (r ≤ 8) ⌝ }
+// Writes the numbers of the bits set in b, whose high bit is number first, to the front of numbers, and answers how many.
+fn list_bits(b: u8, first: usize, numbers: &mut [u8]) -> usize
+    requires { ⌜ first ≤ 248 ⌝ }
+    requires { ⌜ 8 ≤ length (now numbers) ⌝ }
+    ensures count { λ r. ⌜ r ≡ length (numbersIn b first) ⌝ }
+    ensures writes { λ _. ⌜ now (numbers .exit) ≡ placed (numbersIn b first) (now (numbers .entry)) ⌝ }
 {
-    let rest = octets::wide(b) % (1 << (8 - i));
-    if rest == 0 {
-        return 8;
+    let mut rest = octets::wide(b);
+    let mut n: usize = 0;
+    while rest != 0 {
+        let i = (usize::leading_zeros(rest) as usize) - 56;
+        numbers[n] = (first + i) as u8;
+        n += 1;
+        rest -= 1 << (7 - i);
     }
-    (usize::leading_zeros(rest) as usize) - 56
-}
-
-// How many bitmaps the first two ask for: one to three.
-pub fn count_of(maps: &[u8]) -> usize
-    ensures { λ r. ⌜ r ≡ countOf (now (maps .entry)) ⌝ }
-{
-    if !is_set(maps, 1) {
-        return 1;
-    }
-    if is_set(maps, 65) {
-        return 3;
-    }
-    2
+    n
 }
 
 // Bit number of the bytes, from the high bit of the first, from 1. There is no bit 0 and none past the end.

@@ -3,8 +3,9 @@ use Prim.Native.Nat.{ℕ, suc, _+_, _-_, _≤_, _<_}
 use mathlib.Core.Path.{_≡_, refl, sym, ap, _∙_}
 use mathlib.Core.List.{List, [], _∷_, _++_, append-assoc, append-nil}
 use native.Mathlib.Omega.{arith}
-use lib.ListN.{length, take, drop, getD, set, length-append, length-take, length-drop, take-append-drop, drop-of-length-le}
-use lib.Seq.{take-append-seam, drop-append-seam, take-all, drop-cons, drop-drop, take-at, drop-at, set-at}
+use native.Mathlib.Numerals.{add-one}
+use lib.ListN.{length, take, drop, getD, set, length-set, length-append, length-take, length-drop, take-append-drop, drop-of-length-le}
+use lib.Seq.{take-append-seam, drop-append-seam, take-all, drop-cons, drop-drop, drop-set-lt, take-suc-set, take-at, drop-at, set-at}
 use borrow.Rule.Slice.PartMut.{midOf, putMid}
 use Rattle.octets.specs.Lists.{lay, placed}
 use Rattle.octets.proofs.Lists.{lay-length, placed-fits}
@@ -101,6 +102,16 @@ written-more whole d o old r rest f at k w he hk room hf =
     let m : length (midOf at (length o - at) o) ≡ length o - at = ap length (part-rest at o) ∙ length-drop at o in
     let p : f ≡ lay r (midOf at (length o - at) o) = hf ∙ placed-fits r (midOf at (length o - at) o) k hk (omega arith) in
     rw (part-back at o f, p, part-rest at o, ← hk) (grown-written whole d o r rest at (rw he at w) (omega arith))
+
+-- one byte stored
+pub written-byte : (whole d o rest : List ℕ) (at x : ℕ) → Written whole d o (x ∷ rest) at → at < length o → Written whole d (set o at x) rest (at + 1)
+written-byte whole d o rest at x w room =
+    record {
+      front = rw (add-one, take-suc-set o at x room, append-assoc) (w .front);
+      back = drop-set-lt (at + 1) o at x (omega arith) ∙ sym (drop-drop 1 at o) ∙ ap (drop 1) (w .back) ∙ drop-drop 1 at d;
+      size = length-set o at x ∙ w .size;
+      within = omega (arith, length-set o at x);
+    }
 
 pub written-end : (whole d o rest : List ℕ) (at : ℕ) → Written whole d o rest at → rest ≡ [] → (at ≡ length whole) × (o ≡ lay whole d)
 unfolding lay

@@ -107,3 +107,7 @@ lengthNeedsDigits = 25
 -- 26: the till program's input is over 60,000 bytes
 abbrev pub inputTooLong : ℕ
 inputTooLong = 26
+
+-- 27, which 01 does not have: there is a bitmap more than is taken; while three are taken, no input has it
+abbrev pub bitmapOverMost : ℕ
+bitmapOverMost = 27

@@ -1,51 +1,71 @@
--- Those written and those from the number that the loop has come to make the list (Listed).
-use Prim.Native.Nat.{_+_, _-_}
-use mathlib.Core.Path.{refl}
-use lib.ListN.{replicate}
-use Rattle.bitmap.proofs.Listed.{Listed, listed-first, listed-room, listed-more, listed-end}
-use Rattle.bitmap.proofs.Nexts.{next-least}
-use borrow.Author.Needs.{needs}
+-- The fields written and those from the byte that the loop has come to make the list (Listed).
+use Prim.Native.Nat.{_-_}
 use native.Mathlib.Omega.{arith}
+use Rattle.bitmap.proofs.Listed.{Filling, filling-none, filling-lent, filling-sum, filling-over, filling-more, filling-end}
+use borrow.Author.Needs.{needs}
 use Rattle.bitmap.proofs.list_fields.Statement.{statement}
 use Rattle.bitmap.proofs.list_fields.Tie as tie
 
 abbrev Inv-loop : tie.InvT-loop
-Inv-loop bits numbers₀ n₀ f₀ numbers n f = Listed bits (replicate 192 0) numbers n f
+Inv-loop bits end numbers₀ n₀ at₀ numbers n at = Filling bits numbers at n
 
 abbrev μ-loop : tie.MeasureT-loop
-μ-loop bits numbers₀ n₀ f₀ numbers n f = 193 - f
+μ-loop bits end numbers₀ n₀ at₀ numbers n at = end - at
 
-next-field-requires : tie.Need-next-field-requires Inv-loop μ-loop
-next-field-requires c κs = search needs
+end-of-requires : tie.Need-end-of-requires Inv-loop μ-loop
+end-of-requires c κs = search needs
 
 loop-holds : tie.Need-loop-holds Inv-loop μ-loop
-loop-holds c = listed-first (c .next-field .ensures)
+loop-holds c = filling-none _
 
-cast-numbers : tie.Need-cast-numbers Inv-loop μ-loop
-cast-numbers c = search needs
+shared-slice-read-b : tie.Need-shared-slice-read-b Inv-loop μ-loop
+shared-slice-read-b c = search needs
 
-array-write-numbers : tie.Need-array-write-numbers Inv-loop μ-loop
-array-write-numbers c = omega (arith, listed-room (c .before .loop .inv) (c .loop-test .taken))
-
-add-n : tie.Need-add-n Inv-loop μ-loop
-add-n c = omega (arith, listed-room (c .before .loop .inv) (c .loop-test .taken))
-
-add-next-field : tie.Need-add-next-field Inv-loop μ-loop
-add-next-field c = search needs
-
-next-field-requires-2 : tie.Need-next-field-requires-2 Inv-loop μ-loop
-next-field-requires-2 c κs = search needs
+add-at : tie.Need-add-at Inv-loop μ-loop
+add-at c = search needs
 
 loop-less : tie.Need-loop-less Inv-loop μ-loop
-loop-less c =
-    let l = c .before .before in
-    omega (arith, c .next-field2 .ensures, next-least (l .before .before .before .args .bits .now) (l .loop .f + 1), c .before .loop-test .taken)
+loop-less c = search needs
 
 loop-again : tie.Need-loop-again Inv-loop μ-loop
-loop-again c = listed-more (c .before .before .loop .inv) (c .before .loop-test .taken) refl (c .next-field2 .ensures)
+loop-again c = filling-over _ _ _ _ (c .before .before .before .loop .inv) (search needs) (c .if1 .taken)
+
+unchain-requires : tie.Need-unchain-requires Inv-loop μ-loop
+unchain-requires c κs = search needs
+
+mul-list-bits : tie.Need-mul-list-bits Inv-loop μ-loop
+mul-list-bits c = search needs
+
+add-list-bits : tie.Need-add-list-bits Inv-loop μ-loop
+add-list-bits c = search needs
+
+sub-list-bits : tie.Need-sub-list-bits Inv-loop μ-loop
+sub-list-bits c = search needs
+
+part-numbers-start : tie.Need-part-numbers-start Inv-loop μ-loop
+part-numbers-start c = search needs
+
+part-numbers-end : tie.Need-part-numbers-end Inv-loop μ-loop
+part-numbers-end c = search needs
+
+list-bits-requires : tie.Need-list-bits-requires Inv-loop μ-loop
+list-bits-requires c κs = (search needs, filling-lent _ _ _ _ (c .before .before .before .before .before .loop .inv) (search needs))
+
+add-n : tie.Need-add-n Inv-loop μ-loop
+add-n c = omega (arith, filling-sum _ _ _ _ (c .before .before .before .before .before .before .before .loop .inv) (search needs) _ _ (c .before .list-bits .ensures .0))
+
+add-at-2 : tie.Need-add-at-2 Inv-loop μ-loop
+add-at-2 c = search needs
+
+loop-less-2 : tie.Need-loop-less-2 Inv-loop μ-loop
+loop-less-2 c = search needs
+
+loop-again-2 : tie.Need-loop-again-2 Inv-loop μ-loop
+loop-again-2 c =
+    filling-more _ _ _ _ (c .before .before .before .before .before .before .before .loop .inv) (search needs) _ _ _ (c .before .before .before .unchain .ensures) (c .before .list-bits .ensures .0) (c .before .list-bits .ensures .1)
 
 returns : tie.Need-returns Inv-loop μ-loop
-returns c = listed-end (c .before .loop .inv) (c .loop-test .left)
+returns c = filling-end _ _ _ _ (c .before .loop .inv) (search needs)
 
 pub list-fields-spec : {M : Type 1} → statement M
 list-fields-spec =
@@ -53,13 +73,21 @@ list-fields-spec =
     (tie.spec
     Inv-loop
     μ-loop
-    next-field-requires
+    end-of-requires
     loop-holds
-    cast-numbers
-    array-write-numbers
-    add-n
-    add-next-field
-    next-field-requires-2
+    shared-slice-read-b
+    add-at
     loop-less
     loop-again
+    unchain-requires
+    mul-list-bits
+    add-list-bits
+    sub-list-bits
+    part-numbers-start
+    part-numbers-end
+    list-bits-requires
+    add-n
+    add-at-2
+    loop-less-2
+    loop-again-2
     returns)
