@@ -68,20 +68,28 @@ fields-one : (p : ℕ → Bool) (f : ℕ) → p f ≡ false → fieldsFrom p 1 f
 unfolding fieldsFrom
 fields-one p f h = rw (fieldsFrom, h)
 
--- bits 1 and 65 are no fields: of 192 bits, at most 190 are
-pub fields-few : (s : List ℕ) (m : ℕ) → m ≤ 3 → length (fieldsOf s m) ≤ 190
-unfolding fieldsOf hasField isField between
-fields-few s m h =
-    by-le m 2
-    (λ k. omega (arith, fields-most (hasField s) (64 * m) 1))
-    (λ k.
-    let e : m ≡ 3 = omega arith in
-    let a : length (fieldsFrom (hasField s) 192 1) ≡ length (fieldsFrom (hasField s) 1 1) + length (fieldsFrom (hasField s) 191 2) =
-    ap length (fields-split (hasField s) 1 191 1) ∙ length-append (fieldsFrom (hasField s) 1 1) (fieldsFrom (hasField s) 191 2) in
-    let b : length (fieldsFrom (hasField s) 191 2) ≡ length (fieldsFrom (hasField s) 63 2) + length (fieldsFrom (hasField s) 128 65) =
-    ap length (fields-split (hasField s) 63 128 2) ∙ length-append (fieldsFrom (hasField s) 63 2) (fieldsFrom (hasField s) 128 65) in
-    let c : length (fieldsFrom (hasField s) 128 65) ≡ length (fieldsFrom (hasField s) 1 65) + length (fieldsFrom (hasField s) 127 66) =
-    ap length (fields-split (hasField s) 1 127 65) ∙ length-append (fieldsFrom (hasField s) 1 65) (fieldsFrom (hasField s) 127 66) in
+-- bits 1 and 65 are no fields: of the numbers of two or more bitmaps, two are none
+fields-without : (s : List ℕ) (j : ℕ) → length (fieldsFrom (hasField s) (1 + (63 + (1 + j))) 1) ≤ 63 + j
+unfolding hasField isField between
+fields-without s j =
+    let a : length (fieldsFrom (hasField s) (1 + (63 + (1 + j))) 1) ≡ length (fieldsFrom (hasField s) 1 1) + length (fieldsFrom (hasField s) (63 + (1 + j)) 2) =
+    ap length (fields-split (hasField s) 1 (63 + (1 + j)) 1) ∙ length-append (fieldsFrom (hasField s) 1 1) (fieldsFrom (hasField s) (63 + (1 + j)) 2) in
+    let b : length (fieldsFrom (hasField s) (63 + (1 + j)) 2) ≡ length (fieldsFrom (hasField s) 63 2) + length (fieldsFrom (hasField s) (1 + j) 65) =
+    ap length (fields-split (hasField s) 63 (1 + j) 2) ∙ length-append (fieldsFrom (hasField s) 63 2) (fieldsFrom (hasField s) (1 + j) 65) in
+    let c : length (fieldsFrom (hasField s) (1 + j) 65) ≡ length (fieldsFrom (hasField s) 1 65) + length (fieldsFrom (hasField s) j 66) =
+    ap length (fields-split (hasField s) 1 j 65) ∙ length-append (fieldsFrom (hasField s) 1 65) (fieldsFrom (hasField s) j 66) in
     let z : length (fieldsFrom (hasField s) 1 1) ≡ 0 = ap length (fields-one (hasField s) 1 refl) in
     let y : length (fieldsFrom (hasField s) 1 65) ≡ 0 = ap length (fields-one (hasField s) 65 refl) in
-    rw e (omega (arith, fields-most (hasField s) 63 2, fields-most (hasField s) 127 66)))
+    omega (arith, fields-most (hasField s) 63 2, fields-most (hasField s) j 66)
+
+pub fields-under : (s : List ℕ) (k m : ℕ) → 2 ≤ m → k ≤ m → length (fieldsOf s k) ≤ 64 * m - 2
+unfolding fieldsOf
+fields-under s k m two few =
+    by-le k 1
+    (λ h. omega (arith, fields-most (hasField s) (64 * k) 1))
+    (λ h.
+    let e : 64 * k ≡ 1 + (63 + (1 + (64 * k - 65))) = omega arith in
+    omega (arith, ap (λ (n : ℕ). length (fieldsFrom (hasField s) n 1)) e, fields-without s (64 * k - 65)))
+
+pub fields-few : (s : List ℕ) (m : ℕ) → m ≤ 3 → length (fieldsOf s m) ≤ 190
+fields-few s m h = fields-under s m 3 (omega arith) h

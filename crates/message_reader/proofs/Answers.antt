@@ -2,71 +2,74 @@
 use Prim.Native.Nat.{ℕ, _+_, _*_, _≤_, _<_}
 use mathlib.Core.Path.{_≡_, sym, ap, _∙_}
 use mathlib.Core.List.{List}
-use native.Mathlib.Omega.{arith}
 use lib.ListN.{length}
 use borrow.Author.Tests.{lt-ltb, le-ltb}
 use Rattle.octets.specs.Lists.{lay}
 use Rattle.refusal.specs.Numbers.{notesTooShort}
 use Rattle.refusal.specs.Refusals.{plain}
 use Rattle.refusal.specs.declared.Refusal.{Refusal}
-use Rattle.bitmap.proofs.Maps.{count-most}
+use Rattle.bitmap_read.specs.declared.BitmapsRead.the-variants.{Count, Refused as HeadRefused}
 use Rattle.field_table.specs.Table.{Table}
-use Rattle.message_notes.specs.Notes.{notesOf, notesRoom}
-use Rattle.message_reader.specs.declared.HeadRead.the-variants.{Bitmaps, Refused as HeadRefused}
+use Rattle.message_notes.specs.Dialect.{Dialect, dialect, notesRoom}
+use Rattle.message_notes.specs.Notes.{notesOf}
 use Rattle.message_reader.specs.declared.FieldsRead.the-variants.{Used, Refused as FieldsRefused}
 use Rattle.message_reader.specs.declared.ReadAnswer.{ReadAnswer}
 use Rattle.message_reader.specs.declared.ReadAnswer.the-variants.{Accepted, Refused}
-use Rattle.message_reader.specs.Reader.{mapsOf, headRead, readBody, readMessage, readingWith, readAnswer, notesAfter}
+use Rattle.message_reader.specs.Reader.{toldRead, headRead, readBody, readMessage, readingWith, readAnswer, notesAfter}
 use Rattle.message_reader.proofs.Heads.{head-found}
 use Rattle.message_reader.proofs.Language.{message-head-refused, message-refused, message-read}
 
 -- what a head that is read says of its bitmaps
-pub head-few : (s : List ℕ) (m : ℕ) → headRead s ≡ Bitmaps m → m ≤ 3
-head-few s m e = omega (arith, head-found s m e .chained, count-most (mapsOf s m))
+module _ (m : ℕ) (s : List ℕ) (k : ℕ) (e : headRead m s ≡ Count k) (least : 2 ≤ m) where
+  pub head-few : k ≤ m
+  head-few = head-found m s k least e .maps .few
 
-pub head-room : (s : List ℕ) (m : ℕ) → headRead s ≡ Bitmaps m → 4 + 8 * m ≤ length s
-head-room s m e = head-found s m e .long
+  pub head-room : 4 + 8 * k ≤ length s
+  head-room = head-found m s k least e .maps .long
 
 -- the answer and the notes together
-pub record Ends (t : Table) (s b : List ℕ) (r : ReadAnswer) (after : List ℕ) : Type 0 where
-  pub answer : r ≡ readAnswer t s b
-  pub notes : after ≡ notesAfter t s b
+pub record Ends (d : Dialect) (s b : List ℕ) (r : ReadAnswer) (after : List ℕ) : Type 0 where
+  pub answer : r ≡ readAnswer d s b
+  pub notes : after ≡ notesAfter d s b
 
-module _ (t : Table) (s b : List ℕ) where
-  pub ends-short : length b < notesRoom → Ends t s b (Refused (plain notesTooShort)) b
+module _ (d : Dialect) (s b : List ℕ) where
+  pub ends-short : length b < notesRoom d → Ends d s b (Refused (plain notesTooShort)) b
   unfolding readAnswer notesAfter
   ends-short h =
-      let e : readAnswer t s b ≡ Refused (plain notesTooShort) = rw (lt-ltb (length b) notesRoom h) in
+      let e : readAnswer d s b ≡ Refused (plain notesTooShort) = rw (lt-ltb (length b) (notesRoom d) h) in
       record { answer = sym e; notes = rw (notesAfter, e) }
 
-  module _ (room : notesRoom ≤ length b) where
-    answer-is : readAnswer t s b ≡ readMessage t s
+  module _ (room : notesRoom d ≤ length b) where
+    answer-is : readAnswer d s b ≡ readMessage (d .table) (d .most) s
     unfolding readAnswer
-    answer-is = rw (le-ltb (length b) notesRoom room)
+    answer-is = rw (le-ltb (length b) (notesRoom d) room)
 
-    refused : (r : Refusal) → readMessage t s ≡ Refused r → Ends t s b (Refused r) b
+    refused : (r : Refusal) → readMessage (d .table) (d .most) s ≡ Refused r → Ends d s b (Refused r) b
     unfolding notesAfter
     refused r h =
-        let e : readAnswer t s b ≡ Refused r = answer-is ∙ h in
+        let e : readAnswer d s b ≡ Refused r = answer-is ∙ h in
         record { answer = sym e; notes = rw (notesAfter, e) }
 
-    pub ends-head : (r : Refusal) → headRead s ≡ HeadRefused r → Ends t s b (Refused r) b
-    ends-head r h = refused r (message-head-refused t s r h)
+    pub ends-head : (r : Refusal) → headRead (d .most) s ≡ HeadRefused r → Ends d s b (Refused r) b
+    ends-head r h = refused r (message-head-refused (d .table) (d .most) s r h)
 
-    pub ends-refused : (m : ℕ) (r : Refusal) → headRead s ≡ Bitmaps m → readBody t s m ≡ FieldsRefused r → Ends t s b (Refused r) b
-    ends-refused m r h f = refused r (message-refused t s m h r f)
+    pub ends-refused : (k : ℕ) (r : Refusal) → headRead (d .most) s ≡ Count k → readBody (d .table) s k ≡ FieldsRefused r → Ends d s b (Refused r) b
+    ends-refused k r h f = refused r (message-refused (d .table) (d .most) s k h r f)
 
-    pub ends-read : (m u : ℕ) (after : List ℕ) → headRead s ≡ Bitmaps m → readBody t s m ≡ Used u → after ≡ lay (notesOf (readingWith t s m) u) b
-        → Ends t s b (Accepted u m) after
+    pub ends-read : (k u : ℕ) (after : List ℕ) → headRead (d .most) s ≡ Count k → readBody (d .table) s k ≡ Used u
+        → after ≡ lay (notesOf (d .form) (readingWith (d .table) s k) u) b → Ends d s b (Accepted u k) after
     unfolding notesAfter
-    ends-read m u after h f w =
-        let e : readAnswer t s b ≡ Accepted u m = answer-is ∙ message-read t s m h u f in
+    ends-read k u after h f w =
+        let e : readAnswer d s b ≡ Accepted u k = answer-is ∙ message-read (d .table) (d .most) s k h u f in
         record { answer = sym e; notes = rw (notesAfter, e) w }
 
 -- the numbers that `read` lends stand for another table
 module _ (t u : Table) (s b : List ℕ) (same : t ≡ u) where
-  pub answer-by : (r : ReadAnswer) → r ≡ readAnswer t s b → r ≡ readAnswer u s b
-  answer-by r e = e ∙ ap (λ (x : Table). readAnswer x s b) same
+  pub answer-by : (r : ReadAnswer) → r ≡ readAnswer (dialect t) s b → r ≡ readAnswer (dialect u) s b
+  answer-by r e = e ∙ ap (λ (x : Table). readAnswer (dialect x) s b) same
 
-  pub notes-by : (after : List ℕ) → after ≡ notesAfter t s b → after ≡ notesAfter u s b
-  notes-by after e = e ∙ ap (λ (x : Table). notesAfter x s b) same
+  pub notes-by : (after : List ℕ) → after ≡ notesAfter (dialect t) s b → after ≡ notesAfter (dialect u) s b
+  notes-by after e = e ∙ ap (λ (x : Table). notesAfter (dialect x) s b) same
+
+  pub tells-by : (r : ReadAnswer) → r ≡ readAnswer (dialect t) s b → toldRead r ≡ toldRead (readAnswer (dialect u) s b)
+  tells-by r e = ap toldRead (answer-by r e)

@@ -1,18 +1,21 @@
--- How far the fields of a message reach, over a table of small lengths: every number in a note fits. Assumes nothing.
+-- How far the fields of a message reach, over a table of small lengths: every number in a note fits, and the notes fit in their room.
+-- Assumes nothing.
 use Prim.Native.Nat.{ℕ, suc, _+_, _-_, _*_, _≤_, _<_}
 use mathlib.Core.Path.{_≡_, refl, ap}
 use mathlib.Core.Bool.{true}
 use mathlib.Core.List.{List, _++_}
+use native.Mathlib.Nat.{mul-le-mul-left}
 use native.Mathlib.Omega.{arith}
 use lib.ListN.{length, length-append}
 use Rattle.octets.specs.Lists.{all}
 use Rattle.octets.proofs.Cases.{both-left, both-right}
 use Rattle.bitmap.specs.Bitmaps.{isField, fieldsOf}
-use Rattle.bitmap.proofs.Fields.{fields-are, fields-few}
+use Rattle.bitmap.proofs.Fields.{fields-are, fields-under}
 use Rattle.bitmap.proofs.Maps.{field-high}
 use Rattle.field_table.specs.Table.{Table, Small}
 use Rattle.message_language.specs.Language.{Entry, Fields, none, more, Reading, Message}
-use Rattle.message_notes.specs.Notes.{notesOf, notesRoom}
+use Rattle.message_notes.specs.Dialect.{Dialect, noteSize, notesRoom, Sound}
+use Rattle.message_notes.specs.Notes.{notesOf}
 use Rattle.message_notes.proofs.Sizes.{notes-long}
 use Rattle.message_notes.proofs.Spelling.{AllFit}
 
@@ -50,30 +53,34 @@ module _ (t : Table) (small : Small t) where
         reach g,
       )
 
-  module _ (m : ℕ) (bs : List ℕ) (r : Reading) (M : Message t m bs r) (three : r .count ≤ 3) where
-    few : length (r .entries) ≤ 190
-    few = omega (arith, entries-long t (M .fields), fields-few (M .maps) (r .count) three)
+-- a message that the dialect takes
+module _ (d : Dialect) (sound : Sound d) (bs : List ℕ) (r : Reading) (M : Message (d .table) (d .most) bs r) where
+  listed : length (fieldsOf (M .maps) (r .count)) ≤ 64 * d .most - 2
+  listed = fields-under (M .maps) (r .count) (d .most) (sound .least) (M .few)
 
-    pub entries-fit : AllFit (r .entries)
-    unfolding fieldsOf
-    entries-fit =
-        fit (M .fields) (fields-are (M .maps) (64 * r .count) 1)
-        (omega (arith, fields-few (M .maps) (r .count) three, three))
+  few : length (r .entries) ≤ 64 * d .most - 2
+  few = omega (arith, entries-long (d .table) (M .fields), listed)
 
-    pub used-small : length bs < 4294967296
-    unfolding fieldsOf
-    used-small =
-        omega (
-          arith,
-          ap length (M .spelt),
-          length-append (r .mti) (M .maps ++ M .body),
-          length-append (M .maps) (M .body),
-          M .four,
-          M .whole,
-          reach (M .fields),
-          fields-few (M .maps) (r .count) three,
-          three,
-        )
+  pub entries-fit : AllFit (r .entries)
+  unfolding fieldsOf
+  entries-fit =
+      fit (d .table) (sound .small) (M .fields) (fields-are (M .maps) (64 * r .count) 1)
+      (omega (arith, listed, M .few, sound .greatest))
 
-    pub room-enough : (u : ℕ) → length (notesOf r u) ≤ notesRoom
-    room-enough u = omega (arith, notes-long r u (M .four), few)
+  pub used-small : length bs < 4294967296
+  used-small =
+      omega (
+        arith,
+        ap length (M .spelt),
+        length-append (r .mti) (M .maps ++ M .body),
+        length-append (M .maps) (M .body),
+        M .four,
+        M .whole,
+        reach (d .table) (sound .small) (M .fields),
+        listed,
+        M .few,
+        sound .greatest,
+      )
+
+  pub room-enough : (u : ℕ) → length (notesOf (d .form) r u) ≤ notesRoom d
+  room-enough u = omega (arith, notes-long (d .form) r u (M .four), mul-le-mul-left (noteSize (d .form)) few)

@@ -1,4 +1,5 @@
 // The reader: reads a message without changing it, and notes where each field's content is. 01, "The message" and "Notes".
+use bitmap_read::BitmapsRead;
 use field_read::FieldRead;
 use refusal::Refusal;
 ghost use mathlib.Core.Path.{_≡_};
@@ -8,8 +9,10 @@ ghost use Rattle.octets.specs.Lists.{lay};
 ghost use Rattle.field_table.specs.House.{house};
 ghost use Rattle.field_table.specs.Codes.{decoded};
 ghost use Rattle.bitmap.specs.Bitmaps.{fieldsOf};
-ghost use Rattle.message_notes.specs.Notes.{notesOf, fieldNotes, notesRoom, fieldNoteSize};
-ghost use Rattle.message_reader.specs.Reader.{headRead, mapsRead, readFields, entriesOf, mapsOf, readBody, readingWith, readAnswer, notesAfter};
+ghost use Rattle.bitmap_read.specs.Found.{mapsOf};
+ghost use Rattle.message_notes.specs.Dialect.{plainForm, noteSize, dialect, notesRoom};
+ghost use Rattle.message_notes.specs.Notes.{notesOf, fieldNotes};
+ghost use Rattle.message_reader.specs.Reader.{toldRead, headRead, readFields, entriesOf, readBody, readingWith, readAnswer, notesAfter};
 
 // The bytes used and the count of bitmaps, or the refusal.
 pub enum ReadAnswer {
@@ -17,22 +20,17 @@ pub enum ReadAnswer {
     Refused(Refusal),
 }
 
-// How many bitmaps there are, or the refusal.
-pub enum HeadRead {
-    Bitmaps(usize),
-    Refused(Refusal),
-}
-
 // The place after the last field, or the refusal.
-pub enum FieldsRead {
+enum FieldsRead {
     Used(usize),
     Refused(Refusal),
 }
 
 // Reads the message at the front of an input, and writes its notes to the front of notes. A refusal leaves notes as they were.
 pub fn read(message: &[u8], notes: &mut [u8]) -> ReadAnswer
-    ensures answers { λ r. ⌜ r ≡ readAnswer house (now (message .entry)) (now (notes .entry)) ⌝ }
-    ensures writes { λ _. ⌜ now (notes .exit) ≡ notesAfter house (now (message .entry)) (now (notes .entry)) ⌝ }
+    ensures answers { λ r. ⌜ r ≡ readAnswer (dialect house) (now (message .entry)) (now (notes .entry)) ⌝ }
+    ensures writes { λ _. ⌜ now (notes .exit) ≡ notesAfter (dialect house) (now (message .entry)) (now (notes .entry)) ⌝ }
+    ensures tells { λ r. ⌜ toldRead r ≡ toldRead (readAnswer (dialect house) (now (message .entry)) (now (notes .entry))) ⌝ }
 {
     if notes.len() < message_notes::NOTES_ROOM {
         return ReadAnswer::Refused(Refusal {
@@ -42,8 +40,8 @@ pub fn read(message: &[u8], notes: &mut [u8]) -> ReadAnswer
         });
     }
     match read_head(message) {
-        HeadRead::Refused(refusal) => ReadAnswer::Refused(refusal),
-        HeadRead::Bitmaps(bitmaps) => {
+        BitmapsRead::Refused(refusal) => ReadAnswer::Refused(refusal),
+        BitmapsRead::Count(bitmaps) => {
             let table = field_table::house_table();
             read_by(message, bitmaps, &table, notes)
         }
@@ -52,10 +50,10 @@ pub fn read(message: &[u8], notes: &mut [u8]) -> ReadAnswer
 
 // Reads the fields of a message with a good head by the table lent, and writes its notes: lists the fields that its bitmaps name.
 fn read_by(message: &[u8], bitmaps: usize, table: &[u16], notes: &mut [u8]) -> ReadAnswer
-    requires { ⌜ headRead (now message) ≡ HeadRead.Bitmaps bitmaps ⌝ }
-    requires { ⌜ notesRoom ≤ length (now notes) ⌝ }
-    ensures answers { λ r. ⌜ r ≡ readAnswer (decoded (now (table .entry))) (now (message .entry)) (now (notes .entry)) ⌝ }
-    ensures writes { λ _. ⌜ now (notes .exit) ≡ notesAfter (decoded (now (table .entry))) (now (message .entry)) (now (notes .entry)) ⌝ }
+    requires { ⌜ headRead (dialect (decoded (now table)) .most) (now message) ≡ BitmapsRead.Count bitmaps ⌝ }
+    requires { ⌜ notesRoom (dialect (decoded (now table))) ≤ length (now notes) ⌝ }
+    ensures answers { λ r. ⌜ r ≡ readAnswer (dialect (decoded (now (table .entry)))) (now (message .entry)) (now (notes .entry)) ⌝ }
+    ensures writes { λ _. ⌜ now (notes .exit) ≡ notesAfter (dialect (decoded (now (table .entry)))) (now (message .entry)) (now (notes .entry)) ⌝ }
 {
     let start = 4 + 8 * bitmaps;
     let list = bitmap::list_fields(&message[4..start]);
@@ -72,11 +70,11 @@ fn read_listed(
     table: &[u16],
     notes: &mut [u8],
 ) -> ReadAnswer
-    requires { ⌜ headRead (now message) ≡ HeadRead.Bitmaps bitmaps ⌝ }
-    requires { ⌜ now fields ≡ fieldsOf (mapsOf (now message) bitmaps) bitmaps ⌝ }
-    requires { ⌜ notesRoom ≤ length (now notes) ⌝ }
-    ensures answers { λ r. ⌜ r ≡ readAnswer (decoded (now (table .entry))) (now (message .entry)) (now (notes .entry)) ⌝ }
-    ensures writes { λ _. ⌜ now (notes .exit) ≡ notesAfter (decoded (now (table .entry))) (now (message .entry)) (now (notes .entry)) ⌝ }
+    requires { ⌜ headRead (dialect (decoded (now table)) .most) (now message) ≡ BitmapsRead.Count bitmaps ⌝ }
+    requires { ⌜ now fields ≡ fieldsOf (mapsOf 4 (now message) bitmaps) bitmaps ⌝ }
+    requires { ⌜ notesRoom (dialect (decoded (now table))) ≤ length (now notes) ⌝ }
+    ensures answers { λ r. ⌜ r ≡ readAnswer (dialect (decoded (now (table .entry)))) (now (message .entry)) (now (notes .entry)) ⌝ }
+    ensures writes { λ _. ⌜ now (notes .exit) ≡ notesAfter (dialect (decoded (now (table .entry)))) (now (message .entry)) (now (notes .entry)) ⌝ }
 {
     match read_fields(message, 4 + 8 * bitmaps, fields, table) {
         FieldsRead::Refused(refusal) => ReadAnswer::Refused(refusal),
@@ -88,11 +86,11 @@ fn read_listed(
 }
 
 // Reads the MTI and finds how many bitmaps there are.
-fn read_head(message: &[u8]) -> HeadRead
-    ensures { λ r. ⌜ r ≡ headRead (now (message .entry)) ⌝ }
+fn read_head(message: &[u8]) -> BitmapsRead
+    ensures { λ r. ⌜ r ≡ headRead (dialect house .most) (now (message .entry)) ⌝ }
 {
     if message.len() < 12 {
-        return HeadRead::Refused(Refusal {
+        return BitmapsRead::Refused(Refusal {
             number: refusal::MESSAGE_TOO_SHORT,
             field: 0,
             position: 0,
@@ -100,42 +98,13 @@ fn read_head(message: &[u8]) -> HeadRead
     }
     let digits = octets::lead_between(&message[..4], 48, 57);
     if digits < 4 {
-        return HeadRead::Refused(Refusal {
+        return BitmapsRead::Refused(Refusal {
             number: refusal::MTI_NOT_DIGITS,
             field: 0,
             position: digits,
         });
     }
-    read_bitmaps(message)
-}
-
-// Finds how many bitmaps there are after the MTI, each of them whole.
-fn read_bitmaps(message: &[u8]) -> HeadRead
-    requires { ⌜ 12 ≤ length (now message) ⌝ }
-    ensures { λ r. ⌜ r ≡ mapsRead (now (message .entry)) ⌝ }
-{
-    let maps = &message[4..];
-    if !bitmap::is_set(maps, 1) {
-        return HeadRead::Bitmaps(1);
-    }
-    if message.len() < 20 {
-        return HeadRead::Refused(Refusal {
-            number: refusal::BITMAP_INCOMPLETE,
-            field: 0,
-            position: 12,
-        });
-    }
-    if !bitmap::is_set(maps, 65) {
-        return HeadRead::Bitmaps(2);
-    }
-    if message.len() < 28 {
-        return HeadRead::Refused(Refusal {
-            number: refusal::BITMAP_INCOMPLETE,
-            field: 0,
-            position: 20,
-        });
-    }
-    HeadRead::Bitmaps(3)
+    bitmap_read::read_bitmaps(message, 4)
 }
 
 // Reads the fields one after the other, the first at start, each from the rest of the message. Nothing is written.
@@ -173,12 +142,12 @@ fn write_notes(
     table: &[u16],
     notes: &mut [u8],
 )
-    requires { ⌜ bitmaps ≤ 3 ⌝ }
+    requires { ⌜ bitmaps ≤ dialect (decoded (now table)) .most ⌝ }
     requires { ⌜ 4 + 8 * bitmaps ≤ length (now message) ⌝ }
-    requires { ⌜ now fields ≡ fieldsOf (mapsOf (now message) bitmaps) bitmaps ⌝ }
-    requires { ⌜ notesRoom ≤ length (now notes) ⌝ }
+    requires { ⌜ now fields ≡ fieldsOf (mapsOf 4 (now message) bitmaps) bitmaps ⌝ }
+    requires { ⌜ notesRoom (dialect (decoded (now table))) ≤ length (now notes) ⌝ }
     requires { ⌜ readBody (decoded (now table)) (now message) bitmaps ≡ FieldsRead.Used used ⌝ }
-    ensures { λ _. ⌜ now (notes .exit) ≡ lay (notesOf (readingWith (decoded (now (table .entry))) (now (message .entry)) bitmaps) used) (now (notes .entry)) ⌝ }
+    ensures { λ _. ⌜ now (notes .exit) ≡ lay (notesOf plainForm (readingWith (decoded (now (table .entry))) (now (message .entry)) bitmaps) used) (now (notes .entry)) ⌝ }
 {
     message_notes::put_head(&message[..4], bitmaps, notes);
     let written = write_fields(
@@ -202,10 +171,10 @@ fn write_fields(
     notes: &mut [u8],
 ) -> usize
     requires { ⌜ start ≤ length (now message) ⌝ }
-    requires { ⌜ length (now fields) * fieldNoteSize ≤ length (now notes) ⌝ }
+    requires { ⌜ noteSize plainForm * length (now fields) ≤ length (now notes) ⌝ }
     requires { ⌜ ((u : ℕ) × (readFields (decoded (now table)) start (now fields) (drop start (now message)) ≡ FieldsRead.Used u)) ⌝ }
-    ensures size { λ r. ⌜ r ≡ length (fieldNotes (entriesOf (decoded (now (table .entry))) start (now (fields .entry)) (drop start (now (message .entry))))) ⌝ }
-    ensures writes { λ _. ⌜ now (notes .exit) ≡ lay (fieldNotes (entriesOf (decoded (now (table .entry))) start (now (fields .entry)) (drop start (now (message .entry))))) (now (notes .entry)) ⌝ }
+    ensures size { λ r. ⌜ r ≡ length (fieldNotes plainForm (entriesOf (decoded (now (table .entry))) start (now (fields .entry)) (drop start (now (message .entry))))) ⌝ }
+    ensures writes { λ _. ⌜ now (notes .exit) ≡ lay (fieldNotes plainForm (entriesOf (decoded (now (table .entry))) start (now (fields .entry)) (drop start (now (message .entry))))) (now (notes .entry)) ⌝ }
 {
     let mut at = start;
     let mut written: usize = 0;

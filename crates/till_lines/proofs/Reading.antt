@@ -11,11 +11,12 @@ use Rattle.octets.specs.Lists.{lay}
 use Rattle.octets.specs.Texts.{text}
 use Rattle.octets.proofs.Parts.{Written, lay-part}
 use Rattle.field_table.specs.House.{house}
-use Rattle.field_table.proofs.Rows.{house-small}
 use Rattle.message_language.specs.Language.{Reading, Begins}
+use Rattle.message_notes.specs.Dialect.{headSize, plainForm, dialect}
 use Rattle.message_notes.specs.Notes.{headNote, fieldNotes, endNote, notesOf}
 use Rattle.message_notes.proofs.Sizes.{head-long}
 use Rattle.message_notes.proofs.Spelling.{AllFit}
+use Rattle.message_notes.proofs.Sound.{house-sound}
 use Rattle.message_reader.specs.Reader.{readMessage, readingWith}
 use Rattle.message_reader.specs.declared.ReadAnswer.the-variants.{Accepted}
 use Rattle.message_reader.proofs.Language.{accepts}
@@ -39,19 +40,19 @@ lay-over a b d =
 -- An input that is not too long was accepted, and the text d has the room of any report.
 pub record Opened (s : List ℕ) (u m : ℕ) (d : List ℕ) : Type 0 where
   pub short : length s ≤ inputMost
-  pub read : readMessage house s ≡ Accepted u m
+  pub read : readMessage house (dialect house .most) s ≡ Accepted u m
   pub room : textRoom ≤ length d
 
 module _ {s : List ℕ} {u m : ℕ} {d : List ℕ} (c : Opened s u m d) where
   abbrev reading : Reading
   reading = readingWith house s m
 
-  begins : Begins house 3 s u reading
-  begins = accepts house s u m (c .read)
+  begins : Begins house (dialect house .most) s u reading
+  begins = accepts (dialect house) house-sound s u m (c .read)
 
-  three : m ≤ 3
+  count-most : m ≤ dialect house .most
   unfolding readingWith
-  three = begins .is .few
+  count-most = begins .is .few
 
   mti-four : length (take 4 s) ≡ 4
   unfolding readingWith
@@ -64,10 +65,10 @@ module _ {s : List ℕ} {u m : ℕ} {d : List ℕ} (c : Opened s u m d) where
   used-most = omega (arith, begins .long, ap length (begins .joined), length-append (begins .message) (begins .after), c .short)
 
   fit : AllFit (reading .entries)
-  fit = entries-fit house house-small 3 (begins .message) reading (begins .is) (begins .is .few)
+  fit = entries-fit (dialect house) house-sound (begins .message) reading (begins .is)
 
   pub lines-room : length (readingLines reading u) ≤ textRoom
-  lines-room = reading-most reading u (begins .is .four) (begins .is .few) (entries-few house s m three) fit used-most
+  lines-room = reading-most reading u (begins .is .four) (begins .is .few) (entries-few (dialect house) s m (house-sound .least) count-most) fit used-most
 
   abbrev mti : List ℕ
   mti = mtiLine (take 4 s)
@@ -153,16 +154,16 @@ module _ {s : List ℕ} {u m : ℕ} {d o : List ℕ} {n : ℕ} {f : List ℕ} {k
         within = omega (arith, headed-room, headed-size, given .room);
       }
 
-  module _ (notes : List ℕ) (noted : take (length (notesOf (reading given) u)) notes ≡ notesOf (reading given) u) where
+  module _ (notes : List ℕ) (noted : take (length (notesOf plainForm (reading given) u)) notes ≡ notesOf plainForm (reading given) u) where
     after : List ℕ
-    after = drop (length (notesOf (reading given) u)) notes
+    after = drop (length (notesOf plainForm (reading given) u)) notes
 
-    notes-are : notes ≡ headNote (take 4 s) m ++ (fieldNotes (reading given .entries) ++ (endNote u ++ after))
+    notes-are : notes ≡ headNote (take 4 s) m ++ (fieldNotes plainForm (reading given .entries) ++ (endNote u ++ after))
     unfolding notesOf readingWith after
     notes-are =
-        sym (take-append-drop (length (notesOf (reading given) u)) notes) ∙ ap (λ (l : List ℕ). l ++ after) noted ∙ simp append-assoc
+        sym (take-append-drop (length (notesOf plainForm (reading given) u)) notes) ∙ ap (λ (l : List ℕ). l ++ after) noted ∙ simp append-assoc
 
-    pub walked-first : Walked (readingLines (reading given) u) two notes u two 6 (n + k)
+    pub walked-first : Walked (readingLines (reading given) u) two notes u two headSize (n + k)
     walked-first =
         record {
           small = omega (arith, used-most given);
@@ -170,6 +171,6 @@ module _ {s : List ℕ} {u m : ℕ} {d o : List ℕ} {n : ℕ} {f : List ℕ} {k
           left = reading given .entries;
           after = after;
           fit = fit given;
-          rest = ap (drop 6) notes-are ∙ drop-at (headNote (take 4 s) m) _ 6 (omega (arith, head-long (take 4 s) m, mti-four given));
+          rest = ap (drop headSize) notes-are ∙ drop-at (headNote (take 4 s) m) _ headSize (omega (arith, head-long (take 4 s) m, mti-four given));
           written = front-written;
         }

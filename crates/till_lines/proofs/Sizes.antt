@@ -1,5 +1,5 @@
 -- How long the lines are: any report fits in its room. Assumes nothing.
-use Prim.Native.Nat.{ℕ, suc, _+_, _*_, _^_, _≤_, _<_}
+use Prim.Native.Nat.{ℕ, suc, _+_, _-_, _*_, _^_, _≤_, _<_}
 use mathlib.Core.Path.{_≡_}
 use mathlib.Core.List.{List, [], _∷_, _++_}
 use native.Mathlib.Omega.{arith}
@@ -7,7 +7,9 @@ use lib.ListN.{length, length-append}
 use Rattle.octets.specs.Texts.{text}
 use Rattle.octets.proofs.Numerals.{numeral-most}
 use Rattle.refusal.specs.declared.Refusal.{Refusal}
+use Rattle.field_table.specs.House.{house}
 use Rattle.message_language.specs.Language.{Entry, Reading}
+use Rattle.message_notes.specs.Dialect.{dialect}
 use Rattle.message_notes.proofs.Spelling.{Fits, AllFit}
 use Rattle.till_lines.specs.Lines.{space, newline, named, mtiLine, fieldLine, fieldLines, readingLines, refusedLine, inputMost, textRoom}
 use Rattle.till_lines.proofs.Writing.{named-long, tripled-long, mti-line-long}
@@ -45,8 +47,8 @@ fields-most [] a = omega arith
 fields-most (e ∷ es) a =
     omega (arith, length-append (fieldLine e) (fieldLines es), field-most e (a .0), fields-most es (a .1))
 
--- a reading with at most three bitmaps and 190 fields, of a message that is no longer than an input may be
-pub reading-most : (r : Reading) (u : ℕ) → length (r .mti) ≡ 4 → r .count ≤ 3 → length (r .entries) ≤ 190 → AllFit (r .entries) → u ≤ inputMost
+-- a reading of the desk's dialect, of a message that is no longer than an input may be
+pub reading-most : (r : Reading) (u : ℕ) → length (r .mti) ≡ 4 → r .count ≤ dialect house .most → length (r .entries) ≤ 64 * dialect house .most - 2 → AllFit (r .entries) → u ≤ inputMost
     → length (readingLines r u) ≤ textRoom
 unfolding readingLines
 reading-most r u four three few fit short =

@@ -13,9 +13,11 @@ use Rattle.octets.proofs.Parts.{to-end, Written, written-room, written-more, wr
 use Rattle.message_language.specs.Language.{Entry, entry}
 use Rattle.message_notes.specs.declared.Note.{Note}
 use Rattle.message_notes.specs.declared.Note.the-variants.{Field, End, Malformed}
+use Rattle.message_notes.specs.Dialect.{plainForm, noteSize, endSize}
 use Rattle.message_notes.specs.Notes.{fieldNote, fieldNotes, endNote, noteAt}
 use Rattle.message_notes.proofs.Sizes.{field-long, end-long}
 use Rattle.message_notes.proofs.Spelling.{AllFit}
+use Rattle.message_notes.proofs.Sound.{plain-apart}
 use Rattle.message_notes.proofs.Reading.{field-back, end-back}
 use Rattle.till_lines.specs.Lines.{newline, named, fieldLine, fieldLines}
 use Rattle.till_lines.proofs.Writing.{part-size}
@@ -24,8 +26,8 @@ abbrev usedLine : ℕ → List ℕ
 usedLine u = named (text "used") u newline
 
 -- a note is read from the part of the notes that starts at its place
-pub note-part : (notes : List ℕ) (at : ℕ) (r q : Note) → r ≡ noteAt (take (length notes - at) (drop at notes)) → r ≡ q → noteAt (drop at notes) ≡ q
-note-part notes at r q e h = ap noteAt (sym (to-end at notes)) ∙ sym e ∙ h
+pub note-part : (notes : List ℕ) (at : ℕ) (r q : Note) → r ≡ noteAt plainForm (take (length notes - at) (drop at notes)) → r ≡ q → noteAt plainForm (drop at notes) ≡ q
+note-part notes at r q e h = ap (noteAt plainForm) (sym (to-end at notes)) ∙ sym e ∙ h
 
 -- the notes that are left begin with a field's, or with the end's
 pub record First (f p n : ℕ) (left : List Entry) : Type 0 where
@@ -34,17 +36,17 @@ pub record First (f p n : ℕ) (left : List Entry) : Type 0 where
 
 module _ (u : ℕ) (small : u < 4294967296) (after : List ℕ) where
   abbrev coming : List Entry → List ℕ
-  coming es = fieldNotes es ++ (endNote u ++ after)
+  coming es = fieldNotes plainForm es ++ (endNote u ++ after)
 
-  none-noted : noteAt (coming []) ≡ End u
+  none-noted : noteAt plainForm (coming []) ≡ End u
   unfolding fieldNotes
-  none-noted = end-back u after small
+  none-noted = end-back plainForm u after plain-apart small
 
-  first-noted : (e : Entry) (es : List Entry) → AllFit (e ∷ es) → noteAt (coming (e ∷ es)) ≡ Field (e .number) (e .offset) (e .size)
+  first-noted : (e : Entry) (es : List Entry) → AllFit (e ∷ es) → noteAt plainForm (coming (e ∷ es)) ≡ Field (e .number) (e .offset) (e .size)
   unfolding fieldNotes AllFit
-  first-noted e es a = rw (append-assoc (fieldNote e) (fieldNotes es) (endNote u ++ after)) (field-back e (coming es) (a .0))
+  first-noted e es a = rw (append-assoc (fieldNote plainForm e) (fieldNotes plainForm es) (endNote u ++ after)) (field-back plainForm e (coming es) (a .0))
 
-  field-first : (left : List Entry) → AllFit left → (f p n : ℕ) → noteAt (coming left) ≡ Field f p n → First f p n left
+  field-first : (left : List Entry) → AllFit left → (f p n : ℕ) → noteAt plainForm (coming left) ≡ Field f p n → First f p n left
   field-first [] a f p n h =
       let e = none-noted in
       let z : _≡_ {A = ℕ} 0 1 = cc in
@@ -57,14 +59,14 @@ module _ (u : ℕ) (small : u < 4294967296) (after : List ℕ) where
       let q : e ≡ entry f p n = λ x. record { number = i x; offset = j x; size = l x } in
       record { others = es; is = ap (λ (x : Entry). x ∷ es) q }
 
-  end-last : (left : List Entry) → AllFit left → (v : ℕ) → noteAt (coming left) ≡ End v → left ≡ []
+  end-last : (left : List Entry) → AllFit left → (v : ℕ) → noteAt plainForm (coming left) ≡ End v → left ≡ []
   end-last [] a v h = refl
   end-last (e ∷ es) a v h =
       let k = first-noted e es a in
       let z : _≡_ {A = ℕ} 0 1 = cc in
       absurd (omega arith)
 
-  none-malformed : (left : List Entry) → AllFit left → noteAt (coming left) ≡ Malformed → ⊥
+  none-malformed : (left : List Entry) → AllFit left → noteAt plainForm (coming left) ≡ Malformed → ⊥
   none-malformed [] a h =
       let e = none-noted in
       let z : _≡_ {A = ℕ} 0 1 = cc in
@@ -81,13 +83,13 @@ pub record Walked (whole d notes : List ℕ) (u : ℕ) (o : List ℕ) (at w : �
   pub left : List Entry
   pub after : List ℕ
   pub fit : AllFit left
-  pub rest : drop at notes ≡ fieldNotes left ++ (endNote u ++ after)
+  pub rest : drop at notes ≡ fieldNotes plainForm left ++ (endNote u ++ after)
   pub written : Written whole d o (fieldLines left ++ usedLine u) w
 
 module _ {whole d notes : List ℕ} {u : ℕ} {o : List ℕ} {at w : ℕ} (c : Walked whole d notes u o at w) where
-  pub walked-inside : at + 5 ≤ length notes
+  pub walked-inside : at + endSize ≤ length notes
   walked-inside =
-      let l = length-append (fieldNotes (c .left)) (endNote u ++ c .after) in
+      let l = length-append (fieldNotes plainForm (c .left)) (endNote u ++ c .after) in
       let k = length-append (endNote u) (c .after) in
       omega (arith, ap length (c .rest), length-drop at notes, end-long u)
 
@@ -102,9 +104,9 @@ module _ {whole d notes : List ℕ} {u : ℕ} {o : List ℕ} {at w : ℕ} (c : W
       written-more whole d o _ r rest g w k (c .written) h (sym hk) (omega (arith, part-size w o, c .written .within))
       (hg ∙ sym (placed-fits r (midOf w (length o - w) o) (length r) refl l))
 
-  module _ {f p n : ℕ} (note : noteAt (drop at notes) ≡ Field f p n) where
+  module _ {f p n : ℕ} (note : noteAt plainForm (drop at notes) ≡ Field f p n) where
     here : First f p n (c .left)
-    here = field-first u (c .small) (c .after) (c .left) (c .fit) f p n (ap noteAt (sym (c .rest)) ∙ note)
+    here = field-first u (c .small) (c .after) (c .left) (c .fit) f p n (ap (noteAt plainForm) (sym (c .rest)) ∙ note)
 
     lines-here : fieldLines (c .left) ++ usedLine u ≡ fieldLine (entry f p n) ++ (fieldLines (here .others) ++ usedLine u)
     unfolding fieldLines
@@ -112,11 +114,11 @@ module _ {whole d notes : List ℕ} {u : ℕ} {o : List ℕ} {at w : ℕ} (c : W
         ap (λ (es : List Entry). fieldLines es ++ usedLine u) (here .is)
         ∙ append-assoc (fieldLine (entry f p n)) (fieldLines (here .others)) (usedLine u)
 
-    notes-here : drop at notes ≡ fieldNote (entry f p n) ++ (fieldNotes (here .others) ++ (endNote u ++ c .after))
+    notes-here : drop at notes ≡ fieldNote plainForm (entry f p n) ++ (fieldNotes plainForm (here .others) ++ (endNote u ++ c .after))
     unfolding fieldNotes
     notes-here =
-        c .rest ∙ ap (λ (es : List Entry). fieldNotes es ++ (endNote u ++ c .after)) (here .is)
-        ∙ append-assoc (fieldNote (entry f p n)) (fieldNotes (here .others)) (endNote u ++ c .after)
+        c .rest ∙ ap (λ (es : List Entry). fieldNotes plainForm es ++ (endNote u ++ c .after)) (here .is)
+        ∙ append-assoc (fieldNote plainForm (entry f p n)) (fieldNotes plainForm (here .others)) (endNote u ++ c .after)
 
     fit-here : AllFit (entry f p n ∷ here .others)
     fit-here = rw (here .is) at (c .fit)
@@ -133,18 +135,18 @@ module _ {whole d notes : List ℕ} {u : ℕ} {o : List ℕ} {at w : ℕ} (c : W
           length-append (fieldLine (entry f p n)) (fieldLines (here .others) ++ usedLine u),
         )
 
-    pub field-inside : at + 8 ≤ length notes
+    pub field-inside : at + noteSize plainForm ≤ length notes
     field-inside =
         omega (
           arith,
           ap length notes-here,
           length-drop at notes,
-          length-append (fieldNote (entry f p n)) (fieldNotes (here .others) ++ (endNote u ++ c .after)),
-          field-long (entry f p n),
+          length-append (fieldNote plainForm (entry f p n)) (fieldNotes plainForm (here .others) ++ (endNote u ++ c .after)),
+          field-long plainForm (entry f p n),
         )
 
     pub walked-field : {g : List ℕ} {k : ℕ} → k ≡ length (fieldLine (entry f p n)) → g ≡ lay (fieldLine (entry f p n)) (midOf w (length o - w) o)
-        → Walked whole d notes u (putMid w (length o - w) o g) (at + 8) (w + k)
+        → Walked whole d notes u (putMid w (length o - w) o g) (at + noteSize plainForm) (w + k)
     unfolding AllFit
     walked-field {g} {k} hk hg =
         record {
@@ -154,16 +156,16 @@ module _ {whole d notes : List ℕ} {u : ℕ} {o : List ℕ} {at w : ℕ} (c : W
           after = c .after;
           fit = fit-here .1;
           rest =
-              sym (drop-drop 8 at notes) ∙ ap (drop 8) notes-here
-              ∙ drop-at (fieldNote (entry f p n)) (fieldNotes (here .others) ++ (endNote u ++ c .after)) 8 (field-long (entry f p n));
+              sym (drop-drop (noteSize plainForm) at notes) ∙ ap (drop (noteSize plainForm)) notes-here
+              ∙ drop-at (fieldNote plainForm (entry f p n)) (fieldNotes plainForm (here .others) ++ (endNote u ++ c .after)) (noteSize plainForm) (field-long plainForm (entry f p n));
           written = line-written (fieldLine (entry f p n)) (fieldLines (here .others) ++ usedLine u) g k lines-here hk hg;
         }
 
-  module _ {v : ℕ} (note : noteAt (drop at notes) ≡ End v) where
+  module _ {v : ℕ} (note : noteAt plainForm (drop at notes) ≡ End v) where
     last-line : fieldLines (c .left) ++ usedLine u ≡ usedLine u ++ []
     unfolding fieldLines
     last-line =
-        rw (end-last u (c .small) (c .after) (c .left) (c .fit) v (ap noteAt (sym (c .rest)) ∙ note)) (sym (append-nil (usedLine u)))
+        rw (end-last u (c .small) (c .after) (c .left) (c .fit) v (ap (noteAt plainForm) (sym (c .rest)) ∙ note)) (sym (append-nil (usedLine u)))
 
     pub end-room : length (usedLine u) ≤ length (midOf w (length o - w) o)
     end-room = line-room (usedLine u) [] last-line
@@ -172,5 +174,5 @@ module _ {whole d notes : List ℕ} {u : ℕ} {o : List ℕ} {at w : ℕ} (c : W
         → (w + k ≡ length whole) × (putMid w (length o - w) o g ≡ lay whole d)
     walked-end {g} {k} hk hg = written-end whole d _ [] (w + k) (line-written (usedLine u) [] g k last-line hk hg) refl
 
-  pub never-malformed : noteAt (drop at notes) ≡ Malformed → ⊥
-  never-malformed note = none-malformed u (c .small) (c .after) (c .left) (c .fit) (ap noteAt (sym (c .rest)) ∙ note)
+  pub never-malformed : noteAt plainForm (drop at notes) ≡ Malformed → ⊥
+  never-malformed note = none-malformed u (c .small) (c .after) (c .left) (c .fit) (ap (noteAt plainForm) (sym (c .rest)) ∙ note)

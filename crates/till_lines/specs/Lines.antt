@@ -10,12 +10,12 @@
 --   fieldLines es        == a line for each entry, in order
 --   readingLines r u     == the lines of the reading r of a message u bytes long
 --   refusedLine r        == the line of a refusal
---   answerLines t s a    == the lines for the reader's answer a to the input s
+--   answerLines t s a    == the lines for the reader's answer a to the input s, by the table t
 --   inputMost            == how long an input may be
---   reportOf t s         == the lines for the input s
+--   reportOf d s         == the lines for the input s, read by the dialect d
 --   textRoom             == what any report fits in
---   reportSize t s b     == how many bytes are written to a text that holds b: none where it lacks that room
---   reportText t s b     == each byte of that text afterwards
+--   reportSize d s b     == how many bytes are written to a text that holds b: none where it lacks that room
+--   reportText d s b     == each byte of that text afterwards
 --
 -- Assumes nothing: these are definitions.
 use Prim.Native.Nat.{ℕ}
@@ -31,6 +31,7 @@ use Rattle.refusal.specs.Refusals.{plain}
 use Rattle.refusal.specs.declared.Refusal.{Refusal}
 use Rattle.field_table.specs.Table.{Table}
 use Rattle.message_language.specs.Language.{Entry, Reading}
+use Rattle.message_notes.specs.Dialect.{Dialect}
 use Rattle.message_reader.specs.Reader.{readMessage, readingWith}
 use Rattle.message_reader.specs.declared.ReadAnswer.{ReadAnswer}
 use Rattle.message_reader.specs.declared.ReadAnswer.the-variants.{Accepted, Refused}
@@ -66,20 +67,21 @@ refusedLine r = tripled (text "refused") (r .number) (text "field") (r .field) (
 
 unfoldable pub answerLines : Table → List ℕ → ReadAnswer → List ℕ
 answerLines t s (Refused r) = refusedLine r
-answerLines t s (Accepted u m) = readingLines (readingWith t s m) u
+answerLines t s (Accepted u k) = readingLines (readingWith t s k) u
 
 abbrev pub inputMost : ℕ
 inputMost = 60000
 
 -- 26: "till program's input over 60,000 bytes", whatever they are
-unfoldable pub reportOf : Table → List ℕ → List ℕ
-reportOf t s = cond (ltb inputMost (length s)) (refusedLine (plain inputTooLong)) (answerLines t s (readMessage t s))
+unfoldable pub reportOf : Dialect → List ℕ → List ℕ
+reportOf d s =
+    cond (ltb inputMost (length s)) (refusedLine (plain inputTooLong)) (answerLines (d .table) s (readMessage (d .table) (d .most) s))
 
 abbrev pub textRoom : ℕ
 textRoom = 8192
 
-unfoldable pub reportSize : Table → List ℕ → List ℕ → ℕ
-reportSize t s b = cond (ltb (length b) textRoom) 0 (length (reportOf t s))
+unfoldable pub reportSize : Dialect → List ℕ → List ℕ → ℕ
+reportSize d s b = cond (ltb (length b) textRoom) 0 (length (reportOf d s))
 
-unfoldable pub reportText : Table → List ℕ → List ℕ → List ℕ
-reportText t s b = cond (ltb (length b) textRoom) b (lay (reportOf t s) b)
+unfoldable pub reportText : Dialect → List ℕ → List ℕ → List ℕ
+reportText d s b = cond (ltb (length b) textRoom) b (lay (reportOf d s) b)

@@ -8,6 +8,7 @@ ghost use lib.ListN.{length, take};
 ghost use Rattle.octets.specs.Lists.{lay};
 ghost use Rattle.field_table.specs.House.{house};
 ghost use Rattle.message_language.specs.Language.{entry};
+ghost use Rattle.message_notes.specs.Dialect.{dialect, plainForm};
 ghost use Rattle.message_notes.specs.Notes.{notesOf};
 ghost use Rattle.message_reader.specs.Reader.{readMessage, readingWith};
 ghost use Rattle.message_reader.specs.declared.ReadAnswer.the-variants.{Accepted};
@@ -29,8 +30,8 @@ const NEWLINE: u8 = b'\n';
 // Writes the lines for an input to the front of text, and answers how many bytes they take. Where text has not the room
 // of any report, it is left as it is and the answer is 0.
 pub fn report(input: &[u8], text: &mut [u8]) -> usize
-    ensures answers { λ r. ⌜ r ≡ reportSize house (now (input .entry)) (now (text .entry)) ⌝ }
-    ensures writes { λ _. ⌜ now (text .exit) ≡ reportText house (now (input .entry)) (now (text .entry)) ⌝ }
+    ensures answers { λ r. ⌜ r ≡ reportSize (dialect house) (now (input .entry)) (now (text .entry)) ⌝ }
+    ensures writes { λ _. ⌜ now (text .exit) ≡ reportText (dialect house) (now (input .entry)) (now (text .entry)) ⌝ }
 {
     if text.len() < TEXT_ROOM {
         return 0;
@@ -65,8 +66,8 @@ fn put_refused(refusal: Refusal, out: &mut [u8]) -> usize
 // Writes the lines of an input that was accepted, each behind the last: the fields' by walking the notes.
 fn put_reading(input: &[u8], used: usize, bitmaps: usize, notes: &[u8], text: &mut [u8]) -> usize
     requires { ⌜ length (now input) ≤ inputMost ⌝ }
-    requires { ⌜ readMessage house (now input) ≡ Accepted used bitmaps ⌝ }
-    requires { ⌜ take (length (notesOf (readingWith house (now input) bitmaps) used)) (now notes) ≡ notesOf (readingWith house (now input) bitmaps) used ⌝ }
+    requires { ⌜ readMessage house (dialect house .most) (now input) ≡ Accepted used bitmaps ⌝ }
+    requires { ⌜ take (length (notesOf plainForm (readingWith house (now input) bitmaps) used)) (now notes) ≡ notesOf plainForm (readingWith house (now input) bitmaps) used ⌝ }
     requires { ⌜ textRoom ≤ length (now text) ⌝ }
     ensures size { λ r. ⌜ r ≡ length (readingLines (readingWith house (now (input .entry)) bitmaps) used) ⌝ }
     ensures writes { λ _. ⌜ now (text .exit) ≡ lay (readingLines (readingWith house (now (input .entry)) bitmaps) used) (now (text .entry)) ⌝ }

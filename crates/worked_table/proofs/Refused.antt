@@ -13,20 +13,25 @@ use Rattle.field_table.specs.Table.{tableOf}
 use Rattle.field_read.specs.Items.{lengthOf, readSized, readItem, readField}
 use Rattle.bitmap.specs.Bits.{bitOf}
 use Rattle.bitmap.specs.Bitmaps.{isField, hasField, fieldsFrom, fieldsOf}
+use Rattle.bitmap_read.specs.Found.{mapsOf, bitmapsRead}
 use Rattle.message_language.specs.Language.{Reading, Begins}
+use Rattle.message_notes.specs.Dialect.{dialect, notesRoom}
 use Rattle.message_reader.specs.declared.ReadAnswer.the-variants.{Refused}
-use Rattle.message_reader.specs.Reader.{mapsRead, headRead, readFields, mapsOf, readBody, readMessage, readAnswer}
+use Rattle.message_reader.specs.Reader.{headRead, readFields, readBody, readMessage, readAnswer}
 use Rattle.message_reader.proofs.Demand3.{house-reads}
 use Rattle.worked_table.specs.Refused.{RefusedMessages}
 
-begins-none : (s : List ℕ) (k : Refusal) → readAnswer house s (replicate 1531 0) ≡ Refused k → (u : ℕ) (r : Reading) → Begins house 3 s u r → ⊥
+abbrev blank : List ℕ
+blank = replicate (notesRoom (dialect house)) 0
+
+begins-none : (s : List ℕ) (k : Refusal) → readAnswer (dialect house) s blank ≡ Refused k → (u : ℕ) (r : Reading) → Begins house (dialect house .most) s u r → ⊥
 begins-none s k e u r x =
-    let a = house-reads .all-messages s (replicate 1531 0) u r (omega (arith, length-replicate {A = ℕ} 1531 0, house-reads .room-is)) x in
+    let a = house-reads .reads .all-messages s blank u r (omega (arith, length-replicate {A = ℕ} (notesRoom (dialect house)) 0)) x in
     let z : _≡_ {A = ℕ} 0 1 = cc in
     omega arith
 
 pub refused-messages : RefusedMessages
-unfolding readAnswer between number house houseRows tableOf lengthOf readSized readItem readField bitOf isField hasField fieldsFrom fieldsOf mapsRead headRead readFields mapsOf readBody readMessage
+unfolding readAnswer between number house houseRows tableOf lengthOf readSized readItem readField bitOf isField hasField fieldsFrom fieldsOf bitmapsRead headRead readFields mapsOf readBody readMessage
 refused-messages =
     record {
       case-4 = begins-none _ (refusal 7 2 12) refl;

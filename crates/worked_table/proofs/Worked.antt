@@ -11,11 +11,12 @@ use Rattle.field_table.specs.Table.{tableOf}
 use Rattle.field_read.specs.Items.{lengthOf, readSized, readItem, readField}
 use Rattle.bitmap.specs.Bits.{bitOf}
 use Rattle.bitmap.specs.Bitmaps.{isField, hasField, countOf, fieldsFrom, fieldsOf}
+use Rattle.bitmap_read.specs.Found.{mapsOf, bitmapsRead}
 use Rattle.message_notes.specs.Notes.{headNote, fieldNote, endNote, fieldNotes, notesOf}
-use Rattle.message_reader.specs.Reader.{mapsRead, headRead, readFields, entriesOf, mapsOf, readBody, readMessage, readingWith, readAnswer, notesAfter}
+use Rattle.message_reader.specs.Reader.{headRead, readFields, entriesOf, readBody, readMessage, readingWith, readAnswer, notesAfter}
 use Rattle.validation_pan.specs.Pan.{digitsIn, worth, weighed, luhnSum, isPan, panFault}
 use Rattle.worked_table.specs.Worked.{outcome, cases}
 
 pub worked : map outcome cases ≡ cases
-unfolding outcome cases lay placed converted convertedInto isBcd spareZero packFault unpackFault translateFault readAnswer notesAfter between digits number house houseRows tableOf lengthOf readSized readItem readField bitOf isField hasField countOf fieldsFrom fieldsOf headNote fieldNote endNote fieldNotes notesOf mapsRead headRead readFields entriesOf mapsOf readBody readMessage readingWith checked evened paired packed spread unpacked table ebcdicOf digitsIn worth weighed luhnSum isPan panFault
+unfolding outcome cases lay placed converted convertedInto isBcd spareZero packFault unpackFault translateFault readAnswer notesAfter between digits number house houseRows tableOf lengthOf readSized readItem readField bitOf isField hasField countOf fieldsFrom fieldsOf headNote fieldNote endNote fieldNotes notesOf bitmapsRead headRead readFields entriesOf mapsOf readBody readMessage readingWith checked evened paired packed spread unpacked table ebcdicOf digitsIn worth weighed luhnSum isPan panFault
 worked = refl

@@ -1,7 +1,7 @@
 -- 01's worked cases 1 to 12, as one table. The MTI is `0800` where 01 gives none.
 --
 --   Case              == an input, what is told of it, and the bytes of the buffer lent for writing afterwards
---   reading s t b     == reading the message s with a notes buffer of 1,531 zeros
+--   reading s t b     == reading the message s by the desk's dialect, with a notes buffer of just its room, all zeros
 --   packing s t b     == the digits s to BCD, into four zeros
 --   unpacking k s t b == k digits from the BCD s, into four zeros
 --   carrying s t      == the PAN check of the content s
@@ -21,6 +21,7 @@ use Rattle.encoding_bcd.specs.Bcd.{packed, unpacked, encodeFault as packFault, 
 use Rattle.encoding_ebcdic.specs.Ebcdic.{ebcdicOf, encodeFault as translateFault}
 use Rattle.field_table.specs.House.{house}
 use Rattle.message_language.specs.Worked.{mti, bitmap}
+use Rattle.message_notes.specs.Dialect.{dialect, notesRoom}
 use Rattle.message_reader.specs.Reader.{toldRead, readAnswer, notesAfter}
 use Rattle.validation_pan.specs.Pan.{panFault}
 
@@ -34,8 +35,12 @@ pub data Case : Type 0 where
 abbrev zeros : ℕ → List ℕ
 zeros k = replicate k 0
 
+abbrev room : ℕ
+room = notesRoom (dialect house)
+
 unfoldable pub outcome : Case → Case
-outcome (reading s t b) = reading s (toldRead (readAnswer house s (zeros 1531))) (notesAfter house s (zeros 1531))
+outcome (reading s t b) =
+    reading s (toldRead (readAnswer (dialect house) s (zeros room))) (notesAfter (dialect house) s (zeros room))
 outcome (packing s t b) =
     packing s (told (converted (packFault s) (packed s) (zeros 4))) (convertedInto (packFault s) (packed s) (zeros 4))
 outcome (unpacking k s t b) =
@@ -48,7 +53,7 @@ abbrev filled : List ℕ → ℕ → List ℕ
 filled r k = r ++ zeros k
 
 abbrev noted : List ℕ → List ℕ
-noted r = filled r (1531 - length r)
+noted r = filled r (room - length r)
 
 abbrev done : ℕ → Told
 done n = tell (plain 0) (n ∷ [])

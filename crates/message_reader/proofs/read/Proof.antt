@@ -1,13 +1,14 @@
 -- One law for each end, in Answers; the numbers that are lent stand for the house table.
-use mathlib.Core.Path.{sym, _∙_}
+use mathlib.Core.Path.{sym, ap, _∙_}
 use Prim.Native.Nat.{_-_}
-use Rattle.message_reader.proofs.Answers.{ends-short, ends-head, answer-by, notes-by}
+use Rattle.message_reader.specs.Reader.{toldRead}
+use Rattle.message_reader.proofs.Answers.{ends-short, ends-head, answer-by, notes-by, tells-by}
 use borrow.Author.Needs.{needs}
 use Rattle.message_reader.proofs.read.Statement.{statement}
 use Rattle.message_reader.proofs.read.Tie as tie
 
 returns : tie.Need-returns
-returns c = let e = ends-short _ _ _ (c .if1 .taken) in (e .answer, e .notes)
+returns c = let e = ends-short _ _ _ (c .if1 .taken) in (e .answer, (e .notes, ap toldRead (e .answer)))
 
 read-head-requires : tie.Need-read-head-requires
 read-head-requires c κs = search needs
@@ -34,13 +35,13 @@ returns-2 : tie.Need-returns-2
 returns-2 c =
     let rh = c .before .before .before in
     let e = ends-head _ _ _ (rh .before .if1 .left) _ (sym (rh .read-head .ensures) ∙ c .before .refusal .given .1) in
-    (e .answer, e .notes)
+    (e .answer, (e .notes, ap toldRead (e .answer)))
 
 same-length : tie.Need-same-length
 same-length c = search needs
 
 returns-3 : tie.Need-returns-3
-returns-3 c = search (answer-by, notes-by, needs)
+returns-3 c = search (answer-by, notes-by, tells-by, needs)
 
 pub read-spec : {M : Type 1} → statement M
 read-spec =

@@ -10,10 +10,10 @@ use Rattle.message_reader.proofs.read_by.Statement.{statement}
 use Rattle.message_reader.proofs.read_by.Tie as tie
 
 mul-start : tie.Need-mul-start
-mul-start c = omega (arith, head-few _ _ (c .before .before .before .pre .0))
+mul-start c = omega (arith, head-few _ _ _ (c .before .before .before .pre .0) (omega arith))
 
 add-start : tie.Need-add-start
-add-start c = omega (arith, head-few _ _ (c .before .before .before .pre .0))
+add-start c = omega (arith, head-few _ _ _ (c .before .before .before .pre .0) (omega arith))
 
 sub-list-fields : tie.Need-sub-list-fields
 sub-list-fields c = search needs
@@ -22,7 +22,7 @@ part-list-fields-start : tie.Need-part-list-fields-start
 part-list-fields-start c = search needs
 
 part-list-fields-end : tie.Need-part-list-fields-end
-part-list-fields-end c = omega (arith, head-room _ _ (c .before .before .before .pre .0))
+part-list-fields-end c = omega (arith, head-room _ _ _ (c .before .before .before .pre .0) (omega arith))
 
 list-fields-requires : tie.Need-list-fields-requires
 list-fields-requires c κs = search needs
@@ -30,18 +30,18 @@ list-fields-requires c κs = search needs
 array-share-prefix-numbers : tie.Need-array-share-prefix-numbers
 array-share-prefix-numbers c =
     let l = c .before .list-fields .ensures in
-    list-few _ _ _ _ refl (l .0) (l .1) .1
+    list-few _ _ _ _ refl (l .0) (l .1)
 
 slice-aggregate-read-listed : tie.Need-slice-aggregate-read-listed
 slice-aggregate-read-listed c =
     let l = c .before .before .list-fields .ensures in
-    sym (length-take-le _ _ (list-few _ _ _ _ refl (l .0) (l .1) .1))
+    sym (length-take-le _ _ (list-few _ _ _ _ refl (l .0) (l .1)))
 
 read-listed-requires : tie.Need-read-listed-requires
 read-listed-requires c κs =
     let l = c .before .before .before in
     let p = l .before .before .before .before .before .pre in
-    (p .0, (list-is _ _ _ _ _ (head-few _ _ (p .0)) (l .list-fields .ensures .0) (l .list-fields .ensures .1), p .1))
+    (p .0, (list-is _ _ _ _ _ (head-few _ _ _ (p .0) (omega arith)) (l .list-fields .ensures .0) (l .list-fields .ensures .1), p .1))
 
 same-length : tie.Need-same-length
 same-length c = search needs

@@ -14,13 +14,13 @@ abbrev start : tie.After-read-fields → tie.Start
 start c = c .before .before .before .before .before
 
 mul-read-fields : tie.Need-mul-read-fields
-mul-read-fields c = omega (arith, head-few _ _ (c .before .before .before .before .pre .0))
+mul-read-fields c = omega (arith, head-few _ _ _ (c .before .before .before .before .pre .0) (omega arith))
 
 add-read-fields : tie.Need-add-read-fields
-add-read-fields c = omega (arith, head-few _ _ (c .before .before .before .before .pre .0))
+add-read-fields c = omega (arith, head-few _ _ _ (c .before .before .before .before .pre .0) (omega arith))
 
 read-fields-requires : tie.Need-read-fields-requires
-read-fields-requires c κs = head-room _ _ (c .before .before .before .before .pre .0)
+read-fields-requires c κs = head-room _ _ _ (c .before .before .before .before .pre .0) (omega arith)
 
 -- what reading the fields answered, of the message
 body : (c : tie.After-read-fields) → readBody (decoded (start c .args .table .now)) (start c .args .message .now) (start c .args .bitmaps) ≡ c .read-fields .result
@@ -36,7 +36,7 @@ write-notes-requires : tie.Need-write-notes-requires
 write-notes-requires c κs =
     let rf = c .before .before .before .before in
     let p = start rf .pre in
-    (head-few _ _ (p .0), (head-room _ _ (p .0), (p .1 .0, (p .1 .1, body rf ∙ c .before .before .used .given .1))))
+    (head-few _ _ _ (p .0) (omega arith), (head-room _ _ _ (p .0) (omega arith), (p .1 .0, (p .1 .1, body rf ∙ c .before .before .used .given .1))))
 
 returns : tie.Need-returns
 returns c =

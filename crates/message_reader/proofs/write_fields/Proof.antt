@@ -2,6 +2,7 @@
 use Prim.Native.Nat.{_-_}
 use lib.ListN.{length}
 use Rattle.field_table.specs.Codes.{decoded}
+use Rattle.message_notes.specs.Dialect.{plainForm}
 use Rattle.message_reader.proofs.Turns.{Met}
 use Rattle.message_reader.proofs.Noting.{Noted, noted-first, noted-met, noted-refused, noted-room, noted-within, noted-read, noted-end}
 use borrow.Author.Needs.{needs}
@@ -10,7 +11,7 @@ use Rattle.message_reader.proofs.write_fields.Statement.{statement}
 use Rattle.message_reader.proofs.write_fields.Tie as tie
 
 abbrev Inv-loop : tie.InvT-loop
-Inv-loop message start fields table notes₀ at₀ written₀ i₀ notes at written i = Noted (decoded table) message fields start notes₀ notes at written i
+Inv-loop message start fields table notes₀ at₀ written₀ i₀ notes at written i = Noted plainForm (decoded table) message fields start notes₀ notes at written i
 
 abbrev μ-loop : tie.MeasureT-loop
 μ-loop message start fields table notes₀ at₀ written₀ i₀ notes at written i = length fields - i

@@ -6,6 +6,7 @@ use lib.Seq.{length-take-le}
 use Rattle.field_table.specs.House.{house}
 use Rattle.message_notes.specs.declared.Note.{Note}
 use Rattle.message_notes.specs.declared.Note.the-variants.{Field, End}
+use Rattle.message_notes.specs.Dialect.{plainForm}
 use Rattle.message_notes.specs.Notes.{noteAt}
 use Rattle.message_reader.specs.Reader.{readingWith}
 use Rattle.till_lines.specs.Lines.{readingLines}
@@ -59,7 +60,7 @@ abbrev start : tie.At-loop Inv-loop μ-loop → tie.Start Inv-loop μ-loop
 start l = entered (first (l .before))
 
 abbrev note-of : tie.At-loop Inv-loop μ-loop → Note
-note-of l = noteAt (drop (l .loop .at) (start l .args .notes .now))
+note-of l = noteAt plainForm (drop (l .loop .at) (start l .args .notes .now))
 
 field-at :
     (c : tie.After-known-told Inv-loop μ-loop) →

@@ -2,13 +2,14 @@
 use mathlib.Core.Path.{sym, _∙_}
 use Prim.Native.Nat.{_-_}
 use Rattle.field_table.specs.House.{house}
+use Rattle.message_notes.specs.Dialect.{dialect}
 use Rattle.till_lines.proofs.Reports.{answered, noted, too-long, refused-lines, accepted-lines, report-short, report-written}
 use borrow.Author.Needs.{needs}
 use Rattle.till_lines.proofs.report.Statement.{statement}
 use Rattle.till_lines.proofs.report.Tie as tie
 
 returns : tie.Need-returns
-returns c = report-short house _ _ (c .if1 .taken)
+returns c = report-short (dialect house) _ _ (c .if1 .taken)
 
 put-refused-requires : tie.Need-put-refused-requires
 put-refused-requires c κs = search needs
@@ -21,7 +22,7 @@ returns-2 c =
     let e = c .before .before .before .before .before in
     let a = e .before .before .before .args in
     let w = c .before .before .put-refused .ensures in
-    report-written house (a .input .now) (a .text .now) (e .if1 .left) _ _ _ (too-long house (a .input .now) (c .before .before .before .before .if2 .taken)) (w .0) (w .1)
+    report-written (dialect house) (a .input .now) (a .text .now) (e .if1 .left) _ _ _ (too-long (dialect house) (a .input .now) (c .before .before .before .before .if2 .taken)) (w .0) (w .1)
 
 slice-aggregate-read : tie.Need-slice-aggregate-read
 slice-aggregate-read c = search needs
@@ -48,8 +49,8 @@ put-reading-requires c κs =
     let a = e .before .before .before .before .args in
     let r = k .before .before .before .before .before .before .read .ensures in
     let g = sym (r .0) ∙ k .before .before .before .used .given .1 in
-    let m = answered house (a .input .now) _ g in
-    (e .if2 .left, (m, (noted house (a .input .now) _ _ _ g (r .1), e .before .if1 .left)))
+    let m = answered (dialect house) (a .input .now) _ g in
+    (e .if2 .left, (m, (noted (dialect house) (a .input .now) _ _ _ g (r .1 .0), e .before .if1 .left)))
 
 same-length-2 : tie.Need-same-length-2
 same-length-2 c = search needs
@@ -61,9 +62,9 @@ returns-3 c =
     let a = e .before .before .before .before .args in
     let r = k .before .before .before .before .before .read .ensures in
     let g = sym (r .0) ∙ k .before .before .refusal .given .1 in
-    let m = answered house (a .input .now) _ g in
+    let m = answered (dialect house) (a .input .now) _ g in
     let w = c .before .before .put-refused2 .ensures in
-    report-written house (a .input .now) (a .text .now) (e .before .if1 .left) _ _ _ (refused-lines house (a .input .now) (e .if2 .left) _ m) (w .0) (w .1)
+    report-written (dialect house) (a .input .now) (a .text .now) (e .before .if1 .left) _ _ _ (refused-lines (dialect house) (a .input .now) (e .if2 .left) _ m) (w .0) (w .1)
 
 same-length-3 : tie.Need-same-length-3
 same-length-3 c = search needs
@@ -75,9 +76,9 @@ returns-4 c =
     let a = e .before .before .before .before .args in
     let r = k .before .before .before .before .before .before .read .ensures in
     let g = sym (r .0) ∙ k .before .before .before .used .given .1 in
-    let m = answered house (a .input .now) _ g in
+    let m = answered (dialect house) (a .input .now) _ g in
     let w = c .before .before .put-reading .ensures in
-    report-written house (a .input .now) (a .text .now) (e .before .if1 .left) _ _ _ (accepted-lines house (a .input .now) (e .if2 .left) _ _ m) (w .0) (w .1)
+    report-written (dialect house) (a .input .now) (a .text .now) (e .before .if1 .left) _ _ _ (accepted-lines (dialect house) (a .input .now) (e .if2 .left) _ _ m) (w .0) (w .1)
 
 pub report-spec : {M : Type 1} → statement M
 report-spec =
