@@ -1,83 +1,87 @@
 -- The ends of lookup and a turn of its loop, with the facts as the code has them. Assumes nothing.
 use Prim.Native.Nat.{ℕ, _+_, _-_, _≤_}
 use mathlib.Core.Path.{_≡_, refl, sym, ap, _∙_}
-use mathlib.Core.Bool.{cond}
 use mathlib.Core.List.{List, [], _∷_}
 use native.Mathlib.Omega.{arith}
 use native.Mathlib.Nat.{add-sub-cancel-left}
-use lib.Dec.{eqb}
 use lib.ListN.{length, take, drop}
 use borrow.Author.Tests.{eq-eqb, ne-eqb}
 use Rattle.octets.proofs.Cases.{by-eq}
 use Rattle.refusal.specs.Numbers.{fieldAbsent}
-use Rattle.refusal.specs.Refusals.{refusal}
+use Rattle.refusal.specs.Refusals.{refusal, Told}
 use Rattle.refusal.specs.declared.Refusal.{Refusal}
 use Rattle.field_table.specs.Table.{Table}
-use Rattle.message_language.specs.Language.{Entry}
-use Rattle.message_notes.specs.Notes.{headSize, fieldNoteSize}
+use Rattle.message_language.specs.Language.{Entry, entry}
+use Rattle.message_notes.specs.Dialect.{Form, headSize, Dialect, dialect}
+use Rattle.message_notes.specs.Notes.{countIn}
 use Rattle.message_walk.specs.declared.Rule.the-variants.{Any}
-use Rattle.message_walk.specs.declared.Judged.{Judged}
-use Rattle.message_walk.specs.declared.Judged.the-variants.{Passed, End, Refused as NoteRefused}
 use Rattle.message_walk.specs.declared.Walked.{Walked}
 use Rattle.message_walk.specs.declared.Walked.the-variants.{Ended, Refused as WalkRefused}
-use Rattle.message_walk.specs.Walk.{any, countIn, judged, passed, Ending, bad, ends, walked, entriesIn}
-use Rattle.message_walk.specs.Answers.{walkedBy}
-use Rattle.message_walk.proofs.Ends.{Going, going-first, going-next, note-here}
-use Rattle.message_walk.proofs.Answered.{any-refused, any-ended}
-use Rattle.message_walk.proofs.Folds.{none-refused, none-end, one-more, AllGood, all-good}
+use Rattle.message_walk.specs.Walk.{Fault, walked, entriesIn, listedIn}
+use Rattle.message_walk.specs.Faults.{any, asked, within, faultBy}
+use Rattle.message_walk.proofs.Heads.{good-head, ended-head}
+use Rattle.message_walk.proofs.Naming.{AllGood, entries-good}
+use Rattle.message_walk.proofs.Weaker.{walked-listed}
+use Rattle.message_walk.proofs.Within.{is-inside}
 use Rattle.message_lookup.specs.declared.Found.{Found}
 use Rattle.message_lookup.specs.declared.Found.the-variants.{At, Refused}
-use Rattle.message_lookup.specs.Lookup.{foundIn, foundBy, lookedUp, startOf, sizeOf}
+use Rattle.message_lookup.specs.Lookup.{foundIn, foundBy, lookedUp, toldFound, startOf, sizeOf}
 
 pub absent-is : (f at : ℕ) → Refused (refusal fieldAbsent f at) ≡ foundIn f at []
 unfolding foundIn
 absent-is f at = refl
 
-module _ (v n : List ℕ) (f end : ℕ) where
-  abbrev m : ℕ
-  m = countIn n
+-- `find`: looking through the whole is looking through what is still to come.
+pub record Finding (f end : ℕ) (whole es : List Entry) : Type 0 where
+  pub same : foundIn f end whole ≡ foundIn f end es
 
-  pub record Finding (at last k : ℕ) : Type 0 where
-    pub going : Going any v n m at last k
-    pub whole : foundIn f end (entriesIn any v n) ≡ foundIn f end (passed any v m k last (drop at n))
+module _ {f end : ℕ} {whole : List Entry} where
+  pub finding-first : Finding f end whole whole
+  finding-first = record { same = refl }
 
-  pub finding-first : headSize ≤ length n → Finding headSize 0 (length n)
-  unfolding entriesIn
-  finding-first h = record { going = going-first any v n m h; whole = refl }
+  pub finding-none : {r : Found} → Finding f end whole [] → r ≡ foundIn f end [] → r ≡ foundIn f end whole
+  finding-none c e = e ∙ sym (c .same)
 
-  module _ (at last k : ℕ) (c : Finding at last k) (o : Judged) (j : o ≡ judged any v m last (take (length n - at) (drop at n))) where
-    pub finding-refused : (x g : ℕ) (r : Found) → o ≡ NoteRefused x g → r ≡ foundIn f end [] → r ≡ foundIn f end (entriesIn any v n)
-    finding-refused x g r is e = e ∙ sym (c .whole ∙ ap (foundIn f end) (none-refused any v n m at last k (c .going) o j x g is))
+  module _ {g a z : ℕ} {es : List Entry} (c : Finding f end whole (entry g a z ∷ es)) where
+    pub finding-here : g ≡ f → At a z ≡ foundIn f end whole
+    unfolding foundIn
+    finding-here e = sym (c .same ∙ rw (foundIn, eq-eqb g f e))
 
-    pub finding-end : (u : ℕ) (r : Found) → o ≡ End u → r ≡ foundIn f end [] → r ≡ foundIn f end (entriesIn any v n)
-    finding-end u r is e = e ∙ sym (c .whole ∙ ap (foundIn f end) (none-end any v n m at last k (c .going) o j u is))
+    pub finding-next : (g ≡ f → ⊥) → Finding f end whole es
+    unfolding foundIn
+    finding-next ne = record { same = c .same ∙ rw (foundIn, ne-eqb g f ne) }
 
-    module _ (g a z : ℕ) (is : o ≡ Passed g a z) where
-      step : foundIn f end (entriesIn any v n) ≡ cond (eqb g f) (At a z) (foundIn f end (passed any v m (k - 1) g (drop (at + fieldNoteSize) n)))
-      unfolding foundIn
-      step = c .whole ∙ ap (foundIn f end) (one-more any v n m at last k (c .going) o j g a z is)
+-- `look_up_by`: lookup asks nothing of contents
+pub any-is : (t : Table) (v : List ℕ) → faultBy t v Any ≡ within v any
+unfolding faultBy asked
+any-is t v = refl
 
-      pub finding-here : g ≡ f → At a z ≡ foundIn f end (entriesIn any v n)
-      finding-here e = sym (step ∙ rw (eq-eqb g f e))
+module _ (t : Table) (v n : List ℕ) (f : ℕ) (w : Walked) (e : w ≡ walked (dialect t) (faultBy t v Any) n) where
+  is-walked : w ≡ walked (dialect t) (within v any) n
+  is-walked = e ∙ ap (λ (p : Fault). walked (dialect t) p n) (any-is t v)
 
-      pub finding-next : (g ≡ f → ⊥) → Finding (at + fieldNoteSize) g (k - 1)
-      finding-next ne = record { going = going-next any v n m at last k (c .going) o j g a z is; whole = step ∙ rw (ne-eqb g f ne) }
-
-      pub finding-room : at + fieldNoteSize ≤ length n
-      finding-room = note-here any v n m at last k (c .going) o j g a z is
-
--- the ends of `look_up`
-module _ (t : Table) (v n : List ℕ) (f : ℕ) (w : Walked) (e : w ≡ walkedBy t Any v n) where
-  pub looked-refused : (r : Refusal) → w ≡ WalkRefused r → Refused r ≡ lookedUp v n f
+  pub looked-refused : (r : Refusal) → w ≡ WalkRefused r → Refused r ≡ lookedUp (dialect t) v n f
   unfolding lookedUp foundBy
-  looked-refused r h = rw (lookedUp, any-refused w t v n e r h)
+  looked-refused r h = rw (lookedUp, ← is-walked, h)
 
-  pub looked-found : (at u : ℕ) (r : Found) → w ≡ Ended at u → r ≡ foundIn f at (entriesIn any v n) → r ≡ lookedUp v n f
+  pub looked-head : (at u : ℕ) → w ≡ Ended at u → headSize ≤ length n
+  looked-head at u h = good-head 3 n (ended-head (dialect t) (within v any) n at u (sym is-walked ∙ h)) .whole
+
+  pub looked-found : (at u : ℕ) (r : Found) → w ≡ Ended at u → r ≡ foundIn f at (listedIn (dialect t .form) n) → r ≡ lookedUp (dialect t) v n f
   unfolding lookedUp foundBy
-  looked-found at u r h d = rw (lookedUp, any-ended w t v n e at u h) d
+  looked-found at u r h d =
+      rw (lookedUp, ← is-walked, h) (d ∙ ap (foundIn f at) (walked-listed (dialect t) (within v any) n at u (sym is-walked ∙ h)))
+
+-- `look_up`: the numbers that it lends stand for another table
+module _ (t u : Table) (v n : List ℕ) (f : ℕ) (same : t ≡ u) where
+  pub looked-by : (r : Found) → r ≡ lookedUp (dialect t) v n f → r ≡ lookedUp (dialect u) v n f
+  looked-by r e = e ∙ ap (λ (x : Table). lookedUp (dialect x) v n f) same
+
+  pub told-by : (r : Found) → r ≡ lookedUp (dialect t) v n f → toldFound r ≡ toldFound (lookedUp (dialect u) v n f)
+  told-by r e = ap toldFound (looked-by r e)
 
 -- A content that is found lies within the values.
-found-inside : (v : List ℕ) (m f end : ℕ) (es : List Entry) → AllGood any v m es → (o z : ℕ) → foundIn f end es ≡ At o z → o + z ≤ length v
+found-inside : (v : List ℕ) (m f end : ℕ) (es : List Entry) → AllGood (within v any) m es → (o z : ℕ) → foundIn f end es ≡ At o z → o + z ≤ length v
 unfolding AllGood foundIn
 found-inside v m f end [] a o z e = let y : _≡_ {A = ℕ} 0 1 = cc in absurd (omega arith)
 found-inside v m f end (x ∷ es) a o z e =
@@ -86,18 +90,17 @@ found-inside v m f end (x ∷ es) a o z e =
     let s : At (x .offset) (x .size) ≡ At o z = rw (eq-eqb (x .number) f h) at e in
     let p : x .offset ≡ o = cc in
     let q : x .size ≡ z = cc in
-    omega (arith, a .0 .1 .inside))
+    omega (arith, is-inside v any x (a .0 .1 .ruled) .place))
     (λ h. found-inside v m f end es (a .1) o z (rw (ne-eqb (x .number) f h) at e))
 
-by-found : (v n : List ℕ) (f o z : ℕ) (w : Ending) → foundBy w f (entriesIn any v n) ≡ At o z → o + z ≤ length v
-unfolding foundBy entriesIn
-by-found v n f o z (bad r) h = let y : _≡_ {A = ℕ} 0 1 = cc in absurd (omega arith)
-by-found v n f o z (ends at u) h =
-    found-inside v (countIn n) f at (passed any v (countIn n) (length n) 0 (drop headSize n)) (all-good any v (countIn n) (length n) 0 (drop headSize n)) o z h
+by-found : (d : Dialect) (v n : List ℕ) (f o z : ℕ) (w : Walked) → foundBy w f (entriesIn d (within v any) n) ≡ At o z → o + z ≤ length v
+unfolding foundBy
+by-found d v n f o z (WalkRefused r) h = let y : _≡_ {A = ℕ} 0 1 = cc in absurd (omega arith)
+by-found d v n f o z (Ended at u) h = found-inside v (countIn n) f at (entriesIn d (within v any) n) (entries-good d (within v any) n) o z h
 
-pub looked-inside : (v n : List ℕ) (f o z : ℕ) → lookedUp v n f ≡ At o z → o + z ≤ length v
+pub looked-inside : (d : Dialect) (v n : List ℕ) (f o z : ℕ) → lookedUp d v n f ≡ At o z → o + z ≤ length v
 unfolding lookedUp
-looked-inside v n f o z e = by-found v n f o z (walked any v n) e
+looked-inside d v n f o z e = by-found d v n f o z (walked d (within v any) n) e
 
 -- the part that is handed back, and where it starts
 module _ (l : Found) (v : List ℕ) (q : ℕ) where

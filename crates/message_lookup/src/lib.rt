@@ -1,13 +1,17 @@
 // Lookup: where a field's content lies in the values, and the content itself. 01, "Notes" and "Lookup walks".
-use message_walk::Judged;
+use message_notes::Note;
+use message_walk::Rule;
 use message_walk::Walked;
 use refusal::Refusal;
 ghost use mathlib.Core.Path.{_≡_};
 ghost use mathlib.Core.List.{[]};
 ghost use Prim.Native.Nat.{_+_, _≤_};
 ghost use lib.ListN.{length, take, drop};
-ghost use Rattle.message_walk.specs.Walk.{any, entriesIn};
-ghost use Rattle.message_lookup.specs.Lookup.{foundIn, lookedUp, startOf, sizeOf};
+ghost use Rattle.field_table.specs.House.{house};
+ghost use Rattle.field_table.specs.Codes.{decoded};
+ghost use Rattle.message_notes.specs.Dialect.{plainForm, headSize, dialect};
+ghost use Rattle.message_walk.specs.Walk.{listedIn};
+ghost use Rattle.message_lookup.specs.Lookup.{foundIn, lookedUp, toldFound, startOf, sizeOf};
 
 // The content's place in the values and its length, or the refusal.
 pub enum Found {
@@ -17,18 +21,17 @@ pub enum Found {
 
 // Looks a field up. The notes may come from anywhere: all of them are judged, also where the field was met early.
 pub fn look_up(values: &[u8], notes: &[u8], number: usize) -> Found
-    ensures { λ r. ⌜ r ≡ lookedUp (now (values .entry)) (now (notes .entry)) number ⌝ }
+    ensures answers { λ r. ⌜ r ≡ lookedUp (dialect house) (now (values .entry)) (now (notes .entry)) number ⌝ }
+    ensures tells { λ r. ⌜ toldFound r ≡ toldFound (lookedUp (dialect house) (now (values .entry)) (now (notes .entry)) number) ⌝ }
 {
-    match message_walk::walk_any(values, notes) {
-        Walked::Refused(refusal) => Found::Refused(refusal),
-        Walked::Ended { at, said: _ } => find(values, notes, number, at),
-    }
+    let table = field_table::house_table();
+    look_up_by(values, notes, number, &table)
 }
 
 // The field's content, as a part of the values; the empty part at their front where lookup refuses.
 pub fn content<'a, 'b>(values: &'a [u8], notes: &'b [u8], number: usize) -> &'a [u8]
-    ensures bytes { λ r. ⌜ now r ≡ take (sizeOf (lookedUp (now (values .entry)) (now (notes .entry)) number)) (drop (startOf (lookedUp (now (values .entry)) (now (notes .entry)) number)) (now (values .entry))) ⌝ }
-    ensures place { λ r. ⌜ (r .ptr .0 ≡ values .entry .ptr .0) × (r .ptr .1 ≡ values .entry .ptr .1 + startOf (lookedUp (now (values .entry)) (now (notes .entry)) number)) ⌝ }
+    ensures bytes { λ r. ⌜ now r ≡ take (sizeOf (lookedUp (dialect house) (now (values .entry)) (now (notes .entry)) number)) (drop (startOf (lookedUp (dialect house) (now (values .entry)) (now (notes .entry)) number)) (now (values .entry))) ⌝ }
+    ensures place { λ r. ⌜ (r .ptr .0 ≡ values .entry .ptr .0) × (r .ptr .1 ≡ values .entry .ptr .1 + startOf (lookedUp (dialect house) (now (values .entry)) (now (notes .entry)) number)) ⌝ }
 {
     match look_up(values, notes, number) {
         Found::Refused(_) => &values[..0],
@@ -39,26 +42,33 @@ pub fn content<'a, 'b>(values: &'a [u8], notes: &'b [u8], number: usize) -> &'a 
     }
 }
 
-// Finds the field among the notes that pass; end is the place of the end note.
-fn find(values: &[u8], notes: &[u8], number: usize, end: usize) -> Found
-    requires { ⌜ 6 ≤ length (now notes) ⌝ }
-    ensures { λ r. ⌜ r ≡ foundIn number end (entriesIn any (now (values .entry)) (now (notes .entry))) ⌝ }
+// Lookup by the table lent.
+fn look_up_by(values: &[u8], notes: &[u8], number: usize, table: &[u16]) -> Found
+    ensures { λ r. ⌜ r ≡ lookedUp (dialect (decoded (now (table .entry)))) (now (values .entry)) (now (notes .entry)) number ⌝ }
 {
-    let count = message_walk::count_in(notes);
-    let mut last: usize = 0;
+    let walk = message_walk::walk(values, notes, Rule::Any, table);
+    let end = walk.end;
+    match end {
+        Walked::Refused(refusal) => Found::Refused(refusal),
+        Walked::Ended { at, said: _ } => find(notes, number, at),
+    }
+}
+
+// Finds the field among notes that have passed; end is the place of the end note.
+fn find(notes: &[u8], number: usize, end: usize) -> Found
+    requires { ⌜ headSize ≤ length (now notes) ⌝ }
+    ensures { λ r. ⌜ r ≡ foundIn number end (listedIn plainForm (now (notes .entry))) ⌝ }
+{
     let mut at = message_notes::HEAD_SIZE;
     while at <= notes.len() {
-        match message_walk::judge_any(values, &notes[at..], count, last) {
-            Judged::Refused {
-                number: _,
-                field: _,
-            } => {
+        match message_notes::read_note(&notes[at..]) {
+            Note::Malformed => {
                 return absent(number, end);
             }
-            Judged::End(_) => {
+            Note::End(_) => {
                 return absent(number, end);
             }
-            Judged::Passed {
+            Note::Field {
                 number: here,
                 offset,
                 length,
@@ -66,7 +76,6 @@ fn find(values: &[u8], notes: &[u8], number: usize, end: usize) -> Found
                 if here == number {
                     return Found::At { offset, length };
                 }
-                last = here;
                 at += message_notes::FIELD_NOTE_SIZE;
             }
         }

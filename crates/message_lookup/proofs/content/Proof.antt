@@ -25,8 +25,8 @@ add-end c =
     let k = c in
     let l = k .before .before .before in
     let a = l .before .before .before .args in
-    let h = sym (l .look-up .ensures) ∙ k .before .offset .given .1 in
-    let i = looked-inside (a .values .now) (a .notes .now) (a .number) _ _ h in
+    let h = sym (l .look-up .ensures .0) ∙ k .before .offset .given .1 in
+    let i = looked-inside _ (a .values .now) (a .notes .now) (a .number) _ _ h in
     omega arith
 
 sub-result : tie.Need-sub-result
@@ -40,19 +40,19 @@ part-result-end c =
     let k = c in
     let l = k .before .before .before in
     let a = l .before .before .before .args in
-    let h = sym (l .look-up .ensures) ∙ k .before .offset .given .1 in
-    let i = looked-inside (a .values .now) (a .notes .now) (a .number) _ _ h in
+    let h = sym (l .look-up .ensures .0) ∙ k .before .offset .given .1 in
+    let i = looked-inside _ (a .values .now) (a .notes .now) (a .number) _ _ h in
     omega arith
 
 returns : tie.Need-returns
 returns c =
-    let h = sym (c .before .before .before .look-up .ensures) ∙ c .before .enum-told .given .1 in
+    let h = sym (c .before .before .before .look-up .ensures .0) ∙ c .before .enum-told .given .1 in
     (part-none _ _ 0 _ h, (refl, place-none _ [] _ _ h))
 
 returns-2 : tie.Need-returns-2
 returns-2 c =
     let k = c .before in
-    let h = sym (k .before .before .before .look-up .ensures) ∙ k .before .offset .given .1 in
+    let h = sym (k .before .before .before .look-up .ensures .0) ∙ k .before .offset .given .1 in
     (part-at _ _ 0 _ _ h, (refl, place-at _ [] _ _ _ h))
 
 pub content-spec : {M : Type 1} → statement M

@@ -1,31 +1,25 @@
--- The whole walk is judged, and then the field is found.
+-- By the numbers that are lent, which stand for the house table.
 use Prim.Native.Nat.{_-_}
-use Rattle.field_table.specs.House.{house}
-use Rattle.message_walk.proofs.Answered.{any-head}
-use Rattle.message_lookup.proofs.Finding.{looked-refused, looked-found}
+use Rattle.message_lookup.proofs.Finding.{looked-by, told-by}
 use borrow.Author.Needs.{needs}
 use Rattle.message_lookup.proofs.look_up.Statement.{statement}
 use Rattle.message_lookup.proofs.look_up.Tie as tie
+use Rattle.field_table.proofs.house_table.Reads as house-table-reads
+use Rattle.message_lookup.proofs.look_up_by.Reads as look-up-by-reads
 
-walk-any-requires : tie.Need-walk-any-requires
-walk-any-requires c κs = search needs
+house-table-requires : tie.Need-house-table-requires
+house-table-requires c κs = search needs
 
-enum-known-refusal : tie.Need-enum-known-refusal
-enum-known-refusal c = search needs
+slice-aggregate-look-up-by : tie.Need-slice-aggregate-look-up-by
+slice-aggregate-look-up-by c = search needs
 
-enum-known-at : tie.Need-enum-known-at
-enum-known-at c = search needs
-
-find-requires : tie.Need-find-requires
-find-requires c κs = any-head _ house _ _ (c .before .before .before .walk-any .ensures) _ _ (c .before .at .given .1)
+look-up-by-requires : tie.Need-look-up-by-requires
+look-up-by-requires c κs = search needs
 
 returns : tie.Need-returns
-returns c = looked-refused house _ _ _ _ (c .before .before .before .walk-any .ensures) _ (c .before .refusal .given .1)
-
-returns-2 : tie.Need-returns-2
-returns-2 c = let k = c .before in looked-found house _ _ _ _ (k .before .before .before .walk-any .ensures) _ _ _ (k .before .at .given .1) (c .find .ensures)
+returns c = (search (looked-by, needs), search (told-by, needs))
 
 pub look-up-spec : {M : Type 1} → statement M
 look-up-spec =
     tie.close
-    (tie.spec walk-any-requires enum-known-refusal enum-known-at find-requires returns returns-2)
+    (tie.spec house-table-requires slice-aggregate-look-up-by look-up-by-requires returns)

@@ -1,0 +1,31 @@
+-- The whole walk is judged, and then the field is found.
+use Prim.Native.Nat.{_-_}
+use Rattle.message_lookup.proofs.Finding.{looked-refused, looked-head, looked-found}
+use borrow.Author.Needs.{needs}
+use Rattle.message_lookup.proofs.look_up_by.Statement.{statement}
+use Rattle.message_lookup.proofs.look_up_by.Tie as tie
+use Rattle.message_lookup.proofs.find.Reads as find-reads
+use Rattle.message_walk.proofs.walk.Reads as walk-reads
+
+walk-requires : tie.Need-walk-requires
+walk-requires c κs = search needs
+
+enum-known-end : tie.Need-enum-known-end
+enum-known-end c = search needs
+
+enum-known-end-2 : tie.Need-enum-known-end-2
+enum-known-end-2 c = search needs
+
+find-requires : tie.Need-find-requires
+find-requires c κs = ?
+
+returns : tie.Need-returns
+returns c = ?
+
+returns-2 : tie.Need-returns-2
+returns-2 c = ?
+
+pub look-up-by-spec : {M : Type 1} → statement M
+look-up-by-spec =
+    tie.close
+    (tie.spec walk-requires enum-known-end enum-known-end-2 find-requires returns returns-2)
