@@ -82,14 +82,11 @@ fields-without s j =
     let y : length (fieldsFrom (hasField s) 1 65) ≡ 0 = ap length (fields-one (hasField s) 65 refl) in
     omega (arith, fields-most (hasField s) 63 2, fields-most (hasField s) j 66)
 
-pub fields-under : (s : List ℕ) (k m : ℕ) → 2 ≤ m → k ≤ m → length (fieldsOf s k) ≤ 64 * m - 2
+pub fields-few : (s : List ℕ) (k m : ℕ) → 2 ≤ m → k ≤ m → length (fieldsOf s k) ≤ 64 * m - 2
 unfolding fieldsOf
-fields-under s k m two few =
+fields-few s k m two few =
     by-le k 1
     (λ h. omega (arith, fields-most (hasField s) (64 * k) 1))
     (λ h.
     let e : 64 * k ≡ 1 + (63 + (1 + (64 * k - 65))) = omega arith in
     omega (arith, ap (λ (n : ℕ). length (fieldsFrom (hasField s) n 1)) e, fields-without s (64 * k - 65)))
-
-pub fields-few : (s : List ℕ) (m : ℕ) → m ≤ 3 → length (fieldsOf s m) ≤ 190
-fields-few s m h = fields-under s m 3 (omega arith) h

@@ -13,6 +13,7 @@ ghost use Rattle.encoding_bcd.specs.Bcd.{packed, unpacked, encodeFault as bcdEn
 ghost use Rattle.encoding_ebcdic.specs.Ebcdic.{asciiOf, ebcdicOf, encodeFault as ebcdicEncodeFault, decodeFault as ebcdicDecodeFault};
 ghost use Rattle.encoding_length.specs.Lengths.{toldLength};
 ghost use Rattle.field_table.specs.House.{house};
+ghost use Rattle.message_notes.specs.Dialect.{dialect};
 ghost use Rattle.message_reader.specs.Reader.{toldRead, readAnswer, notesAfter};
 ghost use Rattle.message_walk.specs.Answers.{testOf};
 ghost use Rattle.message_walk.specs.declared.Rule.the-variants.{Exact, Clean};
@@ -26,8 +27,8 @@ ghost use Rattle.desk_terms.specs.Terms.{reading, written, cleaned, found, meas
 
 #[no_mangle]
 pub extern "C" fn obol_read(message: &[u8], notes: &mut [u8]) -> Reading
-    ensures answers { λ r. ⌜ r ≡ reading (toldRead (readAnswer house (now (message .entry)) (now (notes .entry)))) ⌝ }
-    ensures writes { λ _. ⌜ now (notes .exit) ≡ notesAfter house (now (message .entry)) (now (notes .entry)) ⌝ }
+    ensures answers { λ r. ⌜ r ≡ reading (toldRead (readAnswer (dialect house) (now (message .entry)) (now (notes .entry)))) ⌝ }
+    ensures writes { λ _. ⌜ now (notes .exit) ≡ notesAfter (dialect house) (now (message .entry)) (now (notes .entry)) ⌝ }
 {
     desk_terms::tell_read(message_reader::read(message, notes))
 }

@@ -15,7 +15,7 @@ use Rattle.field_read.specs.Items.{readField, placeField}
 use Rattle.field_read.specs.declared.FieldRead.{FieldRead}
 use Rattle.field_read.specs.declared.FieldRead.the-variants.{Content, Refused as FieldRefused}
 use Rattle.bitmap.specs.Bitmaps.{fieldsOf}
-use Rattle.bitmap.proofs.Fields.{fields-few, fields-under, fields-in}
+use Rattle.bitmap.proofs.Fields.{fields-few, fields-in}
 use Rattle.bitmap_read.specs.Found.{mapsOf}
 use Rattle.message_language.specs.Language.{entry}
 use Rattle.message_notes.specs.Dialect.{Form, noteSize, Dialect}
@@ -101,7 +101,7 @@ module _ (d : Dialect) (s : List ℕ) (k : ℕ) (least : 2 ≤ d .most) (few : k
       omega (
         arith,
         entries-most (d .table) (4 + 8 * k) (fieldsOf (mapsOf 4 s k) k) (drop (4 + 8 * k) s),
-        fields-under (mapsOf 4 s k) k (d .most) least few,
+        fields-few (mapsOf 4 s k) k (d .most) least few,
       )
 
   pub notes-few : length (fieldNotes (d .form) (readingWith (d .table) s k .entries)) ≤ noteSize (d .form) * (64 * d .most - 2)
@@ -109,7 +109,7 @@ module _ (d : Dialect) (s : List ℕ) (k : ℕ) (least : 2 ≤ d .most) (few : k
       omega (arith, fields-long (d .form) (readingWith (d .table) s k .entries), mul-le-mul-left (noteSize (d .form)) entries-few)
 
   pub listed-few : (fs : List ℕ) → fs ≡ fieldsOf (mapsOf 4 s k) k → noteSize (d .form) * length fs ≤ noteSize (d .form) * (64 * d .most - 2)
-  listed-few fs is = mul-le-mul-left (noteSize (d .form)) (omega (arith, ap length is, fields-under (mapsOf 4 s k) k (d .most) least few))
+  listed-few fs is = mul-le-mul-left (noteSize (d .form)) (omega (arith, ap length is, fields-few (mapsOf 4 s k) k (d .most) least few))
 
 -- the fields that the code has listed are those of the bitmaps
 module _ (t : Table) (s fs : List ℕ) (k : ℕ) (is : fs ≡ fieldsOf (mapsOf 4 s k) k) where
@@ -132,5 +132,5 @@ list-is s k n numbers d few a b =
 
 pub list-few : (s d numbers : List ℕ) (n : ℕ) → length d ≡ 192 → n ≡ length (fieldsOf s 3) → numbers ≡ lay (fieldsOf s 3) d → n ≤ length numbers
 list-few s d numbers n l a b =
-    let f = fields-few s 3 (omega arith) in
+    let f = fields-few s 3 3 (omega arith) (omega arith) in
     omega (arith, ap length b ∙ lay-length (fieldsOf s 3) d (omega arith))

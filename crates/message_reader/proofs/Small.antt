@@ -10,7 +10,7 @@ use lib.ListN.{length, length-append}
 use Rattle.octets.specs.Lists.{all}
 use Rattle.octets.proofs.Cases.{both-left, both-right}
 use Rattle.bitmap.specs.Bitmaps.{isField, fieldsOf}
-use Rattle.bitmap.proofs.Fields.{fields-are, fields-under}
+use Rattle.bitmap.proofs.Fields.{fields-are, fields-few}
 use Rattle.bitmap.proofs.Maps.{field-high}
 use Rattle.field_table.specs.Table.{Table, Small}
 use Rattle.message_language.specs.Language.{Entry, Fields, none, more, Reading, Message}
@@ -56,7 +56,7 @@ module _ (t : Table) (small : Small t) where
 -- a message that the dialect takes
 module _ (d : Dialect) (sound : Sound d) (bs : List ℕ) (r : Reading) (M : Message (d .table) (d .most) bs r) where
   listed : length (fieldsOf (M .maps) (r .count)) ≤ 64 * d .most - 2
-  listed = fields-under (M .maps) (r .count) (d .most) (sound .least) (M .few)
+  listed = fields-few (M .maps) (r .count) (d .most) (sound .least) (M .few)
 
   few : length (r .entries) ≤ 64 * d .most - 2
   few = omega (arith, entries-long (d .table) (M .fields), listed)
