@@ -79,7 +79,7 @@ loop-less : tie.Need-loop-less Inv-loop μ-loop
 loop-less c = let k = c .before .before in omega (arith, read-room (turn-at (k .before .before)) (k .here .given .1))
 
 loop-again : tie.Need-loop-again Inv-loop μ-loop
-loop-again c = 
+loop-again c =
     let k = turn-at (c .before .before .before .before) in
     let is = c .before .before .here .given .1 in
     read-next k is (finding-next (read-here k is) (c .if1 .left))

@@ -17,13 +17,13 @@ enum-known-end-2 : tie.Need-enum-known-end-2
 enum-known-end-2 c = search needs
 
 find-requires : tie.Need-find-requires
-find-requires c κs = ?
+find-requires c κs = looked-head _ _ _ 0 _ (c .before .before .before .walk .ensures .0) _ _ (c .before .end2 .given .1)
 
 returns : tie.Need-returns
-returns c = ?
+returns c = looked-refused _ _ _ _ _ (c .before .before .before .walk .ensures .0) _ (c .before .end .given .1)
 
 returns-2 : tie.Need-returns-2
-returns-2 c = ?
+returns-2 c = let k = c .before in looked-found _ _ _ _ _ (k .before .before .before .walk .ensures .0) _ _ _ (k .before .end2 .given .1) (c .find .ensures)
 
 pub look-up-by-spec : {M : Type 1} → statement M
 look-up-by-spec =

@@ -31,7 +31,7 @@ returns-2 : tie.Need-returns-2
 returns-2 c = sym (judged-end _ _ _ _ _ _ (sym (c .before .before .before .read-note .ensures) ∙ c .before .said .given .1))
 
 returns-3 : tie.Need-returns-3
-returns-3 c = 
+returns-3 c =
     let k = c .before in
     judged-plain _ _ _ _ _ _ _ _ (sym (k .before .before .before .read-note .ensures) ∙ k .before .number .given .1) (c .judge-field .ensures)
 

@@ -27,7 +27,7 @@ none-requires : tie.Need-none-requires
 none-requires c κs = search needs
 
 returns : tie.Need-returns
-returns c = 
+returns c =
     let h = c .before .before in
     let a = h .before .before .before .before in
     (walk-head (by a) (fault a) _ _ (h .head-fault .ensures) (c .before .if1 .taken), c .none .ensures ∙ none-named (by a) (fault a) _ _ (h .head-fault .ensures) (c .before .if1 .taken))
@@ -36,7 +36,7 @@ walk-fields-requires : tie.Need-walk-fields-requires
 walk-fields-requires c κs = head-long 3 _ _ (c .before .head-fault .ensures) (c .if1 .left)
 
 returns-2 : tie.Need-returns-2
-returns-2 c = 
+returns-2 c =
     let h = c .before .before in
     let a = h .before .before .before .before in
     let w = c .walk-fields .ensures in

@@ -23,7 +23,7 @@ use Rattle.message_walk.proofs.judge.Reads as judge-reads
 use Rattle.message_walk.proofs.refused_at.Reads as refused-at-reads
 
 abbrev Inv-loop : tie.InvT-loop
-Inv-loop values notes rule table count fields₀ last₀ at₀ fields last at = 
+Inv-loop values notes rule table count fields₀ last₀ at₀ fields last at =
     Walking plainForm (faultBy (decoded table) values rule) notes
     (ending plainForm (faultBy (decoded table) values rule) (countIn notes) (length notes) 0 headSize (drop headSize notes))
     (Naming (entriesIn (dialect (decoded table)) (faultBy (decoded table) values rule) notes) (fields .bits))
@@ -87,7 +87,7 @@ refused-at-requires : tie.Need-refused-at-requires Inv-loop μ-loop
 refused-at-requires c κs = search needs
 
 returns : tie.Need-returns Inv-loop μ-loop
-returns c = 
+returns c =
     let k = c .before .before in
     let r = c .refused-at .ensures in
     (r .0 ∙ turn-refused (turn-at (k .before .before)) (k .number .given .1), r .1 ∙ refused-none _ _ _ (r .0))
@@ -97,7 +97,7 @@ enum-known-said c = search needs
 
 returns-2 : tie.Need-returns-2 Inv-loop μ-loop
 unfolding fieldsOn
-returns-2 c = 
+returns-2 c =
     let k = turn-at (c .before .before .before) in
     let is = c .before .said .given .1 in
     (turn-end k is, naming-done (numbers-are _ _ _ (entries-good _ _ _)) (turn-done k is))
@@ -115,7 +115,7 @@ loop-less : tie.Need-loop-less Inv-loop μ-loop
 loop-less c = let k = c .before .before in omega (arith, turn-room (turn-at (k .before .before)) (k .number2 .given .1))
 
 loop-again : tie.Need-loop-again Inv-loop μ-loop
-loop-again c = 
+loop-again c =
     let k = turn-at (c .before .before .before .before) in
     let is = c .before .before .number2 .given .1 in
     turn-next k is (naming-next (turn-here k is) (c .with .ensures))
