@@ -1,3 +1,4 @@
+pub mod Cleaning
 pub mod Contents
 pub mod Items
 pub mod Made

@@ -1,97 +1,124 @@
--- What the exact and the cleaning writer answer, write and name as padded.
+-- What the exact and the cleaning writer answer, write and name as padded, by the dialect d, from the values v and the notes n, where the
+-- output holds out.
 --
---   numbersOf es              == the numbers of the entries es
---   bodyOf t v es             == the fields of the entries es, whose contents lie in the values v, one after the other
---   bitmapsOf m es            == the m bitmaps for those fields
---   messageOf t v mti m es    == the message: MTI, bitmaps, fields
---   shortIn t es              == the numbers of the fixed fields among es whose contents are too short
---   isChosen t k f z          == field f with a content of z bytes is one of the choice k
---   chosenIn t k es           == the numbers of the entries es that are
---   bytesBy p t v n           == the message that the notes n and the values v stand for, where the test p is asked of contents
---   answered, laidOut         == the answer and the output of a writer whose walk ends at the end note `at` that says u
---   answerOn, outputOn        == the same of one whose walk ended as said, with a refusal or at the end note
---   answerBy p t v n out      == what the writer answers
---   outputBy p t v n out      == each byte of its output
---   paddedOn o t es           == the fields padded by a writer that answered o and was to write the entries es
---   paddedBy p t v n out      == the set of fields that it padded, as 24 bytes of bits; all zero on refusal
+--   exactly d v, cleanly d v    == what their walks ask of a field that a note names
+--   exactMessage d v n          == the message that the exact writer is to write: the contents that the notes name, as they are
+--   cleanMessage d v n          == the same of the cleaning writer: each content padded where it is short
+--   answered w bytes out        == the answer of a writer whose walk ended as w says and which is to write the bytes
+--   laidOut w bytes out         == each byte of its output
+--   exactAnswer d v n out       == what the exact writer answers
+--   exactOutput d v n out       == each byte of its output
+--   cleanAnswer d v n out       == what the cleaning writer answers
+--   cleanOutput d v n out       == each byte of its output
+--   paddedOn o s                == the fields padded by a writer that answered o and was to pad the set s: none on refusal
+--   cleanPadded d v n out       == the set of fields that the cleaning writer padded, as 24 bytes of bits; all zero on refusal
+--
+--   bodyOf t v es               == the fields of the entries es with their contents padded where they are short, one after the other
+--   messageOf t v mti m es      == the message of them
+--   entriesBy t v r n, answerBy t v r n out, outputBy t v r n out, paddedBy t v r n out
+--                               == what a writer by the rule r passes, answers, leaves in its output and pads, by the table t
+--   sizeIn t es                 == how many bytes they take, reckoned from their lengths; a length that no note can hold counts as 0
+--   shortOn w t es, sizeOn w t es
+--                               == the set of the short ones among them, and their size, where the walk that passed them ended as w says;
+--                                  empty and 0 on refusal
 --
 -- Assumes nothing: these are definitions.
-use Prim.Native.Nat.{ℕ, _*_}
-use mathlib.Core.Bool.{Bool, true, cond}
-use mathlib.Core.List.{List, [], _∷_, _++_}
+use Prim.Native.Nat.{ℕ, _+_}
+use mathlib.Core.Bool.{cond}
+use mathlib.Core.List.{List, [], _∷_}
 use lib.Dec.{eqb, leb}
-use lib.ListN.{length, take}
+use lib.ListN.{length}
 use Rattle.octets.specs.Lists.{placed}
 use Rattle.refusal.specs.Numbers.{endDiffers, outputTooShort}
 use Rattle.refusal.specs.Refusals.{refusal}
 use Rattle.refusal.specs.declared.Output.{Output}
 use Rattle.refusal.specs.declared.Output.the-variants.{Written, Refused}
 use Rattle.field_table.specs.Table.{Table}
-use Rattle.field_write.specs.Fields.{isShort, fieldBytes}
-use Rattle.bitmap.specs.Bitmaps.{noFields, setOf, mapsFor}
+use Rattle.field_write.specs.Fields.{exactFault, cleanFault, writtenSize, longest}
+use Rattle.bitmap.specs.Bitmaps.{noFields, setOf}
 use Rattle.message_language.specs.Language.{Entry}
-use Rattle.message_walk.specs.Walk.{Test, countIn, mtiIn, contentOf, Ending, bad, ends, walked, entriesIn}
-use Rattle.message_write.specs.declared.Choice.{Choice}
-use Rattle.message_write.specs.declared.Choice.the-variants.{Named, Short}
+use Rattle.message_contents.specs.Contents.{contentsIn, spelt, messageWith, cleanedIn, shortIn}
+use Rattle.message_notes.specs.Dialect.{Dialect, dialect}
+use Rattle.message_notes.specs.Notes.{mtiIn, countIn}
+use Rattle.message_walk.specs.declared.Rule.{Rule}
+use Rattle.message_walk.specs.declared.Walked.{Walked}
+use Rattle.message_walk.specs.declared.Walked.the-variants.{Ended, Refused as WalkRefused}
+use Rattle.message_walk.specs.Walk.{Fault, walked, entriesIn}
+use Rattle.message_walk.specs.Faults.{within, faultBy}
 
-unfoldable pub numbersOf : List Entry → List ℕ
-numbersOf [] = []
-numbersOf (e ∷ es) = e .number ∷ numbersOf es
+-- 01: "field: 9, 10, 11, 12, 8", of which 11, 12 and 8 are asked of the field
+unfoldable pub exactly : Dialect → List ℕ → Fault
+exactly d v = within v (exactFault (d .table))
+
+unfoldable pub cleanly : Dialect → List ℕ → Fault
+cleanly d v = within v (cleanFault (d .table))
+
+unfoldable pub exactMessage : Dialect → List ℕ → List ℕ → List ℕ
+exactMessage d v n = messageWith (d .table) (mtiIn n) (countIn n) (contentsIn v (entriesIn d (exactly d v) n))
 
 unfoldable pub bodyOf : Table → List ℕ → List Entry → List ℕ
-bodyOf t v [] = []
-bodyOf t v (e ∷ es) = fieldBytes t (e .number) (contentOf v (e .offset) (e .size)) ++ bodyOf t v es
-
--- 01: "the bitmaps follow from the count and the fields"
-unfoldable pub bitmapsOf : ℕ → List Entry → List ℕ
-bitmapsOf m es = take (8 * m) (mapsFor m (setOf (numbersOf es)))
+bodyOf t v es = spelt t (cleanedIn t (contentsIn v es))
 
 unfoldable pub messageOf : Table → List ℕ → List ℕ → ℕ → List Entry → List ℕ
-messageOf t v mti m es = mti ++ (bitmapsOf m es ++ bodyOf t v es)
+messageOf t v mti m es = messageWith t mti m (cleanedIn t (contentsIn v es))
 
-unfoldable pub shortIn : Table → List Entry → List ℕ
-shortIn t [] = []
-shortIn t (e ∷ es) = cond (isShort t (e .number) (e .size)) (e .number ∷ shortIn t es) (shortIn t es)
-
-unfoldable pub isChosen : Table → Choice → ℕ → ℕ → Bool
-isChosen t Named f z = true
-isChosen t Short f z = isShort t f z
-
-unfoldable pub chosenIn : Table → Choice → List Entry → List ℕ
-chosenIn t Named es = numbersOf es
-chosenIn t Short es = shortIn t es
-
-unfoldable pub bytesBy : Test → Table → List ℕ → List ℕ → List ℕ
-bytesBy p t v n = messageOf t v (mtiIn n) (countIn n) (entriesIn p v n)
+unfoldable pub cleanMessage : Dialect → List ℕ → List ℕ → List ℕ
+cleanMessage d v n = messageOf (d .table) v (mtiIn n) (countIn n) (entriesIn d (cleanly d v) n)
 
 -- 01: "end: 9, 13, 14"; 13 is "end note differs from the length to be written"; positions are the end note's
-unfoldable pub answered : ℕ → ℕ → List ℕ → List ℕ → Output
-answered at u bytes out =
+unfoldable pub answered : Walked → List ℕ → List ℕ → Output
+answered (WalkRefused r) bytes out = Refused r
+answered (Ended at u) bytes out =
     cond (eqb u (length bytes))
     (cond (leb (length bytes) (length out)) (Written (length bytes)) (Refused (refusal outputTooShort 0 at)))
     (Refused (refusal endDiffers 0 at))
 
-unfoldable pub laidOut : ℕ → List ℕ → List ℕ → List ℕ
-laidOut u bytes out = cond (eqb u (length bytes)) (placed bytes out) out
+unfoldable pub laidOut : Walked → List ℕ → List ℕ → List ℕ
+laidOut (WalkRefused r) bytes out = out
+laidOut (Ended at u) bytes out = cond (eqb u (length bytes)) (placed bytes out) out
 
-unfoldable pub answerOn : Ending → List ℕ → List ℕ → Output
-answerOn (bad r) bytes out = Refused r
-answerOn (ends at u) bytes out = answered at u bytes out
+unfoldable pub exactAnswer : Dialect → List ℕ → List ℕ → List ℕ → Output
+exactAnswer d v n out = answered (walked d (exactly d v) n) (exactMessage d v n) out
 
-unfoldable pub outputOn : Ending → List ℕ → List ℕ → List ℕ
-outputOn (bad r) bytes out = out
-outputOn (ends at u) bytes out = laidOut u bytes out
+unfoldable pub exactOutput : Dialect → List ℕ → List ℕ → List ℕ → List ℕ
+exactOutput d v n out = laidOut (walked d (exactly d v) n) (exactMessage d v n) out
 
-unfoldable pub answerBy : Test → Table → List ℕ → List ℕ → List ℕ → Output
-answerBy p t v n out = answerOn (walked p v n) (bytesBy p t v n) out
+unfoldable pub cleanAnswer : Dialect → List ℕ → List ℕ → List ℕ → Output
+cleanAnswer d v n out = answered (walked d (cleanly d v) n) (cleanMessage d v n) out
 
-unfoldable pub outputBy : Test → Table → List ℕ → List ℕ → List ℕ → List ℕ
-outputBy p t v n out = outputOn (walked p v n) (bytesBy p t v n) out
+unfoldable pub cleanOutput : Dialect → List ℕ → List ℕ → List ℕ → List ℕ
+cleanOutput d v n out = laidOut (walked d (cleanly d v) n) (cleanMessage d v n) out
 
 -- 01: "It answers the exact set of fields padded, as 24 bytes of bits placed as in the bitmaps, all zero on refusal."
-unfoldable pub paddedOn : Output → Table → List Entry → List ℕ
-paddedOn (Written k) t es = setOf (shortIn t es)
-paddedOn (Refused r) t es = noFields
+unfoldable pub paddedOn : Output → List ℕ → List ℕ
+paddedOn (Written k) s = s
+paddedOn (Refused r) s = noFields
 
-unfoldable pub paddedBy : Test → Table → List ℕ → List ℕ → List ℕ → List ℕ
-paddedBy p t v n out = paddedOn (answerBy p t v n out) t (entriesIn p v n)
+unfoldable pub cleanPadded : Dialect → List ℕ → List ℕ → List ℕ → List ℕ
+cleanPadded d v n out = paddedOn (cleanAnswer d v n out) (setOf (shortIn (d .table) (entriesIn d (cleanly d v) n)))
+
+-- Both at once, by a rule.
+unfoldable pub entriesBy : Table → List ℕ → Rule → List ℕ → List Entry
+entriesBy t v r n = entriesIn (dialect t) (faultBy t v r) n
+
+unfoldable pub answerBy : Table → List ℕ → Rule → List ℕ → List ℕ → Output
+answerBy t v r n out = answered (walked (dialect t) (faultBy t v r) n) (messageOf t v (mtiIn n) (countIn n) (entriesBy t v r n)) out
+
+unfoldable pub outputBy : Table → List ℕ → Rule → List ℕ → List ℕ → List ℕ
+outputBy t v r n out = laidOut (walked (dialect t) (faultBy t v r) n) (messageOf t v (mtiIn n) (countIn n) (entriesBy t v r n)) out
+
+unfoldable pub paddedBy : Table → List ℕ → Rule → List ℕ → List ℕ → List ℕ
+paddedBy t v r n out = paddedOn (answerBy t v r n out) (setOf (shortIn t (entriesBy t v r n)))
+
+-- What the first walk of a writer gathers.
+unfoldable pub sizeIn : Table → List Entry → ℕ
+sizeIn t [] = 0
+sizeIn t (e ∷ es) = cond (leb (e .size) longest) (writtenSize t (e .number) (e .size)) 0 + sizeIn t es
+
+unfoldable pub shortOn : Walked → Table → List Entry → List ℕ
+shortOn (Ended at u) t es = setOf (shortIn t es)
+shortOn (WalkRefused r) t es = noFields
+
+unfoldable pub sizeOn : Walked → Table → List Entry → ℕ
+sizeOn (Ended at u) t es = sizeIn t es
+sizeOn (WalkRefused r) t es = 0

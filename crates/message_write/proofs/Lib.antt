@@ -1,3 +1,0 @@
-pub mod Answering
-pub mod Passing
-pub mod Tables
