@@ -54,7 +54,7 @@ pub extern "C" fn obol_write_clean(values: &[u8], notes: &[u8], out: &mut [u8]) 
 
 #[no_mangle]
 pub extern "C" fn obol_look_up(values: &[u8], notes: &[u8], number: usize) -> Found
-    ensures { λ r. ⌜ r ≡ found (toldFound (lookedUp (now (values .entry)) (now (notes .entry)) number)) ⌝ }
+    ensures { λ r. ⌜ r ≡ found (toldFound (lookedUp (dialect house) (now (values .entry)) (now (notes .entry)) number)) ⌝ }
 {
     desk_terms::tell_found(message_lookup::look_up(values, notes, number))
 }
@@ -68,7 +68,7 @@ pub extern "C" fn obol_check_field(number: usize, content: &[u8]) -> Judgement
 
 #[no_mangle]
 pub extern "C" fn obol_check_required(values: &[u8], notes: &[u8]) -> Judgement
-    ensures { λ r. ⌜ r ≡ judgement (toldChecked (requiredIn (now (values .entry)) (now (notes .entry)))) ⌝ }
+    ensures { λ r. ⌜ r ≡ judgement (toldChecked (requiredIn (dialect house) (now (values .entry)) (now (notes .entry)))) ⌝ }
 {
     desk_terms::tell_checked(validation_required::check_required(values, notes))
 }

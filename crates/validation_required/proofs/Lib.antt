@@ -1,1 +1,2 @@
+pub mod Present
 pub mod Required

@@ -1,32 +1,33 @@
 -- The ends of the check of required fields, with the facts as its code has them. Assumes nothing.
-use Prim.Native.Nat.{ℕ, _+_, _<_}
-use mathlib.Core.Path.{_≡_, sym, ap, _∙_}
-use mathlib.Core.Bool.{Bool, true, false, not}
-use mathlib.Core.List.{List}
+use Prim.Native.Nat.{ℕ}
+use mathlib.Core.Path.{_≡_, refl, sym, ap, _∙_}
+use mathlib.Core.Bool.{Bool, true, false, not, cond}
+use mathlib.Core.List.{List, []}
 use native.Mathlib.Omega.{arith}
-use lib.ListN.{drop, getD}
-use lib.Seq.{getD-take, getD-drop}
-use lib.Dec.{eqb}
-use borrow.Author.Tests.{eq-eqb, ne-eqb, not-true, not-false}
-use Rattle.octets.specs.Lists.{either, between}
-use Rattle.octets.proofs.Cases.{by-eq, by-lt, both-fails, both-goes}
+use lib.ListN.{length}
+use lib.Dec.{eqb, leb}
+use borrow.Author.Tests.{eq-eqb, ne-eqb, le-leb, not-true, not-false}
+use Rattle.octets.specs.Lists.{either, between, all}
+use Rattle.octets.proofs.Cases.{by-bool, by-eq, by-lt, both-fails, both-goes}
 use Rattle.octets.proofs.Lists.{below-low, above-high, is-between}
 use Rattle.refusal.specs.Numbers.{requiredMissing}
-use Rattle.refusal.specs.Refusals.{refusal}
+use Rattle.refusal.specs.Refusals.{refusal, toldChecked}
 use Rattle.refusal.specs.declared.Refusal.{Refusal}
 use Rattle.refusal.specs.declared.Checked.{Checked}
 use Rattle.refusal.specs.declared.Checked.the-variants.{Passed, Refused}
 use Rattle.field_table.specs.Table.{Table}
-use Rattle.message_walk.specs.Walk.{mtiIn}
-use Rattle.message_walk.specs.Answers.{walkedBy}
+use Rattle.bitmap.specs.Bitmaps.{isField, hasField}
+use Rattle.message_notes.specs.Dialect.{headSize, dialect}
+use Rattle.message_notes.specs.Notes.{mtiIn}
 use Rattle.message_walk.specs.declared.Rule.the-variants.{Any}
 use Rattle.message_walk.specs.declared.Walked.{Walked}
 use Rattle.message_walk.specs.declared.Walked.the-variants.{Ended, Refused as WalkRefused}
-use Rattle.message_walk.proofs.Answered.{any-refused, any-ended}
-use Rattle.message_lookup.specs.Lookup.{lookedUp}
-use Rattle.message_lookup.specs.declared.Found.{Found}
-use Rattle.message_lookup.specs.declared.Found.the-variants.{At, Refused as NotFound}
-use Rattle.validation_required.specs.Required.{isCardRequest, isResponse, requiredOfResponse, requiredMore, requiredBy, isFound, isPresent, firstMissing, missingAnswer, requiredAfter, requiredIn}
+use Rattle.message_walk.specs.Walk.{Fault, walked, fieldsIn}
+use Rattle.message_walk.specs.Faults.{any, within, faultBy}
+use Rattle.message_walk.proofs.Heads.{Head, good-head, ended-head}
+use Rattle.message_lookup.proofs.Finding.{any-is}
+use Rattle.validation_required.specs.Required.{secondDigit, thirdDigit, isCardRequest, isResponse, requiredOfResponse, requiredMore, requiredBy, isPresent, firstMissing, missingAnswer, requiredAfter, requiredIn}
+use Rattle.validation_required.proofs.Present.{has-present, same-missing}
 
 -- What is answered where field f is missing.
 module _ (f : ℕ) where
@@ -38,20 +39,7 @@ module _ (f : ℕ) where
   unfolding missingAnswer
   missing-one h = rw (ne-eqb f 0 h)
 
--- Lookup as a test.
-module _ (v n : List ℕ) (f : ℕ) (l : Found) (looked : l ≡ lookedUp v n f) where
-  pub present-at : (o z : ℕ) → l ≡ At o z → true ≡ isPresent v n f
-  unfolding isPresent
-  present-at o z e = ap isFound (sym e ∙ looked)
-
-  pub present-not : (r : Refusal) → l ≡ NotFound r → false ≡ isPresent v n f
-  unfolding isPresent
-  present-not r e = ap isFound (sym e ∙ looked)
-
--- The MTI's digits, where they stand in the notes.
-mti-at : (n : List ℕ) (i : ℕ) → i < 4 → getD (mtiIn n) i 0 ≡ getD n (1 + i) 0
-mti-at n i h = getD-take 4 (drop 1 n) i 0 h ∙ getD-drop 1 n i 0
-
+-- The MTI's digits.
 one-or-two : (x : ℕ) → between 0x31 0x32 x ≡ either (eqb x 0x31) (eqb x 0x32)
 one-or-two x =
     by-eq x 0x31
@@ -62,21 +50,21 @@ one-or-two x =
     (λ l. below-low 0x31 0x32 x l ∙ rw (ne-eqb x 0x31 a, ne-eqb x 0x32 b))
     (λ g. above-high 0x31 0x32 x g (omega (arith, g, a, b)) ∙ rw (ne-eqb x 0x31 a, ne-eqb x 0x32 b))))
 
-module _ (n : List ℕ) where
-  second-is : (flag : Bool) → flag ≡ between 0x31 0x32 (getD n 2 0) → flag ≡ either (eqb (getD (mtiIn n) 1 0) 0x31) (eqb (getD (mtiIn n) 1 0) 0x32)
-  second-is flag e = e ∙ ap (between 0x31 0x32) (sym (mti-at n 1 (omega arith))) ∙ one-or-two (getD (mtiIn n) 1 0)
+module _ (m : List ℕ) (flag : Bool) (tested : flag ≡ between 0x31 0x32 (secondDigit m)) where
+  second-is : flag ≡ either (eqb (secondDigit m) 0x31) (eqb (secondDigit m) 0x32)
+  second-is = tested ∙ one-or-two (secondDigit m)
 
-  pub card-not : (flag : Bool) → flag ≡ between 0x31 0x32 (getD n 2 0) → not flag ≡ true → false ≡ isCardRequest (mtiIn n)
+  pub card-not : not flag ≡ true → false ≡ isCardRequest m
   unfolding isCardRequest
-  card-not flag e t = both-fails flag _ (eqb (getD (mtiIn n) 2 0) 0x30) (second-is flag e) t
+  card-not t = both-fails flag _ (eqb (thirdDigit m) 0x30) second-is t
 
-  pub card-third : (flag : Bool) → flag ≡ between 0x31 0x32 (getD n 2 0) → not flag ≡ false → eqb (getD n 3 0) 0x30 ≡ isCardRequest (mtiIn n)
+  pub card-third : not flag ≡ false → eqb (thirdDigit m) 0x30 ≡ isCardRequest m
   unfolding isCardRequest
-  card-third flag e t = both-goes flag _ _ _ (second-is flag e) t (ap (λ (x : ℕ). eqb x 0x30) (sym (mti-at n 2 (omega arith))))
+  card-third t = both-goes flag _ _ _ second-is t refl
 
-  pub response-third : eqb (getD n 3 0) 0x31 ≡ isResponse (mtiIn n)
-  unfolding isResponse
-  response-third = ap (λ (x : ℕ). eqb x 0x31) (sym (mti-at n 2 (omega arith)))
+pub response-third : (m : List ℕ) → eqb (thirdDigit m) 0x31 ≡ isResponse m
+unfolding isResponse
+response-third m = refl
 
 -- The fields that every message needs, one after the other.
 module _ (p : ℕ → Bool) (m : List ℕ) (a : Bool) (a-is : a ≡ p 3) where
@@ -138,12 +126,55 @@ module _ (p : ℕ → Bool) (m : List ℕ) (response : Bool) (response-is : resp
     unfolding requiredOfResponse firstMissing
     all-there u = rw (← response-is, not-false response h, ← a-is, not-false a u)
 
--- The walk before: malformed notes are answered as by lookup.
-module _ (t : Table) (v n : List ℕ) (w : Walked) (answered : w ≡ walkedBy t Any v n) where
-  pub required-malformed : (r : Refusal) → w ≡ WalkRefused r → Refused r ≡ requiredIn v n
-  unfolding requiredIn requiredAfter
-  required-malformed r h = rw (requiredIn, any-refused w t v n answered r h)
+-- The fields that are asked for are fields.
+are-fields : (m : List ℕ) → all isField (requiredBy m) ≡ true
+unfolding requiredBy requiredMore requiredOfResponse isField between
+are-fields m =
+    by-bool (isCardRequest m)
+    (λ y. by-bool (isResponse m) (λ z. rw (y, z)) (λ z. rw (y, z)))
+    (λ y. by-bool (isResponse m) (λ z. rw (y, z)) (λ z. rw (y, z)))
 
-  pub required-walked : (at u : ℕ) → w ≡ Ended at u → (f : ℕ) → f ≡ firstMissing (isPresent v n) (requiredBy (mtiIn n)) → (c : Checked) → c ≡ missingAnswer f → c ≡ requiredIn v n
+-- `check_required_by`: the walk before, and malformed notes are answered as by lookup
+module _ (t : Table) (v n : List ℕ) (w : Walked) (e : w ≡ walked (dialect t) (faultBy t v Any) n) where
+  is-walked : w ≡ walked (dialect t) (within v any) n
+  is-walked = e ∙ ap (λ (p : Fault). walked (dialect t) p n) (any-is t v)
+
+  pub required-malformed : (r : Refusal) → w ≡ WalkRefused r → Refused r ≡ requiredIn (dialect t) v n
   unfolding requiredIn requiredAfter
-  required-walked at u h f e c d = rw (requiredIn, any-ended w t v n answered at u h) (d ∙ ap missingAnswer e)
+  required-malformed r h = rw (requiredIn, ← is-walked, h)
+
+  module _ (at u : ℕ) (h : w ≡ Ended at u) (mti : List ℕ) (part : mti ≡ cond (leb headSize (length n)) (mtiIn n) []) where
+    ended : walked (dialect t) (within v any) n ≡ Ended at u
+    ended = sym is-walked ∙ h
+
+    head : Head 3 n
+    head = good-head 3 n (ended-head (dialect t) (within v any) n at u ended)
+
+    is-mti : mti ≡ mtiIn n
+    is-mti = part ∙ ap (λ (b : Bool). cond b (mtiIn n) []) (le-leb headSize (length n) (head .whole))
+
+    pub required-mti : length mti ≡ 4
+    required-mti = ap length is-mti ∙ head .four
+
+    module _ (s : List ℕ) (gathered : s ≡ fieldsIn (dialect t) (faultBy t v Any) n) where
+      is-gathered : s ≡ fieldsIn (dialect t) (within v any) n
+      is-gathered = gathered ∙ ap (λ (p : Fault). fieldsIn (dialect t) p n) (any-is t v)
+
+      is-missing : firstMissing (hasField s) (requiredBy mti) ≡ firstMissing (isPresent (dialect t) v n) (requiredBy (mtiIn n))
+      is-missing =
+          ap (λ (m : List ℕ). firstMissing (hasField s) (requiredBy m)) is-mti
+          ∙ same-missing (hasField s) (isPresent (dialect t) v n)
+          (λ f z. ap (λ (x : List ℕ). hasField x f) is-gathered ∙ has-present (dialect t) v n at u ended f z)
+          (requiredBy (mtiIn n)) (are-fields (mtiIn n))
+
+      pub required-walked : (f : ℕ) → f ≡ firstMissing (hasField s) (requiredBy mti) → (c : Checked) → c ≡ missingAnswer f → c ≡ requiredIn (dialect t) v n
+      unfolding requiredIn requiredAfter
+      required-walked f q c k = rw (requiredIn, ended) (k ∙ ap missingAnswer (q ∙ is-missing))
+
+-- `check_required`: the numbers that it lends stand for another table
+module _ (t u : Table) (v n : List ℕ) (same : t ≡ u) where
+  pub required-by : (r : Checked) → r ≡ requiredIn (dialect t) v n → r ≡ requiredIn (dialect u) v n
+  required-by r e = e ∙ ap (λ (x : Table). requiredIn (dialect x) v n) same
+
+  pub told-by : (r : Checked) → r ≡ requiredIn (dialect t) v n → toldChecked r ≡ toldChecked (requiredIn (dialect u) v n)
+  told-by r e = ap toldChecked (required-by r e)

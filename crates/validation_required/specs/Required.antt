@@ -9,11 +9,11 @@
 --   requiredMore m        == those behind the four that every message needs
 --   requiredOfResponse m  == the last of them
 --   isFound r             == lookup's answer r found the field
---   isPresent v n f       == lookup finds field f
+--   isPresent d v n f     == lookup finds field f, by the dialect d
 --   firstMissing p fs     == the first of the fields fs that does not pass p; 0 where all do
 --   missingAnswer f       == the answer where field f is missing; where f is 0, none is
---   requiredAfter e f     == the answer after a walk that ended as e says, where field f is missing (0: none)
---   requiredIn v n        == the answer of the check of the notes n and the values v
+--   requiredAfter w f     == the answer after a walk that ended as w says, where field f is missing (0: none)
+--   requiredIn d v n      == the answer of the check of the notes n and the values v, by the dialect d
 --
 -- Assumes nothing: these are definitions.
 use Prim.Native.Nat.{ℕ}
@@ -26,7 +26,12 @@ use Rattle.refusal.specs.Numbers.{requiredMissing}
 use Rattle.refusal.specs.Refusals.{refusal}
 use Rattle.refusal.specs.declared.Checked.{Checked}
 use Rattle.refusal.specs.declared.Checked.the-variants.{Passed, Refused}
-use Rattle.message_walk.specs.Walk.{any, mtiIn, Ending, bad, ends, walked}
+use Rattle.message_notes.specs.Dialect.{Dialect}
+use Rattle.message_notes.specs.Notes.{mtiIn}
+use Rattle.message_walk.specs.declared.Walked.{Walked}
+use Rattle.message_walk.specs.declared.Walked.the-variants.{Ended, Refused as WalkRefused}
+use Rattle.message_walk.specs.Walk.{walked}
+use Rattle.message_walk.specs.Faults.{any, within}
 use Rattle.message_lookup.specs.Lookup.{lookedUp}
 use Rattle.message_lookup.specs.declared.Found.{Found}
 use Rattle.message_lookup.specs.declared.Found.the-variants.{At, Refused as NotFound}
@@ -56,8 +61,8 @@ abbrev pub isFound : Found → Bool
 isFound (At o n) = true
 isFound (NotFound r) = false
 
-unfoldable pub isPresent : List ℕ → List ℕ → ℕ → Bool
-isPresent v n f = isFound (lookedUp v n f)
+unfoldable pub isPresent : Dialect → List ℕ → List ℕ → ℕ → Bool
+isPresent d v n f = isFound (lookedUp d v n f)
 
 unfoldable pub firstMissing : (ℕ → Bool) → List ℕ → ℕ
 firstMissing p [] = 0
@@ -67,9 +72,9 @@ firstMissing p (f ∷ fs) = cond (p f) (firstMissing p fs) f
 unfoldable pub missingAnswer : ℕ → Checked
 missingAnswer f = cond (eqb f 0) Passed (Refused (refusal requiredMissing f 0))
 
-unfoldable pub requiredAfter : Ending → ℕ → Checked
-requiredAfter (bad r) f = Refused r
-requiredAfter (ends at u) f = missingAnswer f
+unfoldable pub requiredAfter : Walked → ℕ → Checked
+requiredAfter (WalkRefused r) f = Refused r
+requiredAfter (Ended at u) f = missingAnswer f
 
-unfoldable pub requiredIn : List ℕ → List ℕ → Checked
-requiredIn v n = requiredAfter (walked any v n) (firstMissing (isPresent v n) (requiredBy (mtiIn n)))
+unfoldable pub requiredIn : Dialect → List ℕ → List ℕ → Checked
+requiredIn d v n = requiredAfter (walked d (within v any) n) (firstMissing (isPresent d v n) (requiredBy (mtiIn n)))

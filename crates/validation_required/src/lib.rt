@@ -1,21 +1,38 @@
 // Required fields, by the MTI. 01, "Checks and conversions".
-use message_lookup::Found;
+use bitmap::FieldSet;
+use message_walk::Rule;
 use message_walk::Walked;
 use refusal::Checked;
 use refusal::Refusal;
 ghost use mathlib.Core.Path.{_≡_};
-ghost use Prim.Native.Nat.{_≤_};
 ghost use lib.ListN.{length};
-ghost use Rattle.message_walk.specs.Walk.{mtiIn};
-ghost use Rattle.validation_required.specs.Required.{isCardRequest, isResponse, requiredOfResponse, requiredMore, requiredBy, isPresent, firstMissing, missingAnswer, requiredIn};
+ghost use Rattle.refusal.specs.Refusals.{toldChecked};
+ghost use Rattle.field_table.specs.House.{house};
+ghost use Rattle.field_table.specs.Codes.{decoded};
+ghost use Rattle.bitmap.specs.Bitmaps.{hasField};
+ghost use Rattle.message_notes.specs.Dialect.{dialect};
+ghost use Rattle.validation_required.specs.Required.{isCardRequest, isResponse, requiredOfResponse, requiredMore, requiredBy, firstMissing, missingAnswer, requiredIn};
 
 // Checks that the notes name every field that their MTI requires. Malformed notes are answered as by lookup.
 pub fn check_required(values: &[u8], notes: &[u8]) -> Checked
-    ensures { λ r. ⌜ r ≡ requiredIn (now (values .entry)) (now (notes .entry)) ⌝ }
+    ensures answers { λ r. ⌜ r ≡ requiredIn (dialect house) (now (values .entry)) (now (notes .entry)) ⌝ }
+    ensures tells { λ r. ⌜ toldChecked r ≡ toldChecked (requiredIn (dialect house) (now (values .entry)) (now (notes .entry))) ⌝ }
 {
-    match message_walk::walk_any(values, notes) {
+    let table = field_table::house_table();
+    check_required_by(values, notes, &table)
+}
+
+// The check by the table lent: one walk, and the fields asked of the set that it gathered.
+fn check_required_by(values: &[u8], notes: &[u8], table: &[u16]) -> Checked
+    ensures { λ r. ⌜ r ≡ requiredIn (dialect (decoded (now (table .entry)))) (now (values .entry)) (now (notes .entry)) ⌝ }
+{
+    let walk = message_walk::walk(values, notes, Rule::Any, table);
+    let end = walk.end;
+    match end {
         Walked::Refused(refusal) => Checked::Refused(refusal),
-        Walked::Ended { at: _, said: _ } => answer_missing(first_missing(values, notes)),
+        Walked::Ended { at: _, said: _ } => {
+            answer_missing(first_missing(message_notes::mti_in(notes), walk.fields))
+        }
     }
 }
 
@@ -32,84 +49,72 @@ fn answer_missing(field: usize) -> Checked
     })
 }
 
-// The first required field that is missing; 0 where none is.
-fn first_missing(values: &[u8], notes: &[u8]) -> usize
-    requires { ⌜ 6 ≤ length (now notes) ⌝ }
-    ensures { λ r. ⌜ r ≡ firstMissing (isPresent (now (values .entry)) (now (notes .entry))) (requiredBy (mtiIn (now (notes .entry)))) ⌝ }
+// The first of the fields that the MTI requires and that is missing; 0 where none is.
+fn first_missing(mti: &[u8], fields: FieldSet) -> usize
+    requires { ⌜ length (now mti) ≡ 4 ⌝ }
+    ensures { λ r. ⌜ r ≡ firstMissing (hasField (fields .bits)) (requiredBy (now (mti .entry))) ⌝ }
 {
-    if !is_present(values, notes, 3) {
+    if !fields.has(3) {
         return 3;
     }
-    if !is_present(values, notes, 11) {
+    if !fields.has(11) {
         return 11;
     }
-    if !is_present(values, notes, 12) {
+    if !fields.has(12) {
         return 12;
     }
-    if !is_present(values, notes, 13) {
+    if !fields.has(13) {
         return 13;
     }
-    missing_behind(values, notes)
+    missing_behind(mti, fields)
 }
 
 // The same of the fields behind the four that every message needs.
-fn missing_behind(values: &[u8], notes: &[u8]) -> usize
-    requires { ⌜ 6 ≤ length (now notes) ⌝ }
-    ensures { λ r. ⌜ r ≡ firstMissing (isPresent (now (values .entry)) (now (notes .entry))) (requiredMore (mtiIn (now (notes .entry)))) ⌝ }
+fn missing_behind(mti: &[u8], fields: FieldSet) -> usize
+    requires { ⌜ length (now mti) ≡ 4 ⌝ }
+    ensures { λ r. ⌜ r ≡ firstMissing (hasField (fields .bits)) (requiredMore (now (mti .entry))) ⌝ }
 {
-    if !is_card_request(notes) {
-        return missing_of_response(values, notes);
+    if !is_card_request(mti) {
+        return missing_of_response(mti, fields);
     }
-    if !is_present(values, notes, 2) {
+    if !fields.has(2) {
         return 2;
     }
-    if !is_present(values, notes, 4) {
+    if !fields.has(4) {
         return 4;
     }
-    missing_of_response(values, notes)
+    missing_of_response(mti, fields)
 }
 
 // 39, where the MTI is a response's and it is missing; else 0.
-fn missing_of_response(values: &[u8], notes: &[u8]) -> usize
-    requires { ⌜ 6 ≤ length (now notes) ⌝ }
-    ensures { λ r. ⌜ r ≡ firstMissing (isPresent (now (values .entry)) (now (notes .entry))) (requiredOfResponse (mtiIn (now (notes .entry)))) ⌝ }
+fn missing_of_response(mti: &[u8], fields: FieldSet) -> usize
+    requires { ⌜ length (now mti) ≡ 4 ⌝ }
+    ensures { λ r. ⌜ r ≡ firstMissing (hasField (fields .bits)) (requiredOfResponse (now (mti .entry))) ⌝ }
 {
-    if !is_response(notes) {
+    if !is_response(mti) {
         return 0;
     }
-    if !is_present(values, notes, 39) {
+    if !fields.has(39) {
         return 39;
     }
     0
 }
 
-fn is_present(values: &[u8], notes: &[u8], field: usize) -> bool
-    ensures { λ r. ⌜ r ≡ isPresent (now (values .entry)) (now (notes .entry)) field ⌝ }
+// Whether the MTI asks for card and amount: its second digit is 1 or 2, its third 0.
+fn is_card_request(mti: &[u8]) -> bool
+    requires { ⌜ length (now mti) ≡ 4 ⌝ }
+    ensures { λ r. ⌜ r ≡ isCardRequest (now (mti .entry)) ⌝ }
 {
-    match message_lookup::look_up(values, notes, field) {
-        Found::At {
-            offset: _,
-            length: _,
-        } => true,
-        Found::Refused(_) => false,
-    }
-}
-
-// Whether the MTI in the head asks for card and amount: its second digit is 1 or 2, its third 0.
-fn is_card_request(notes: &[u8]) -> bool
-    requires { ⌜ 6 ≤ length (now notes) ⌝ }
-    ensures { λ r. ⌜ r ≡ isCardRequest (mtiIn (now (notes .entry))) ⌝ }
-{
-    if !octets::is_between(notes[2], 49, 50) {
+    if !octets::is_between(mti[1], b'1', b'2') {
         return false;
     }
-    notes[3] == b'0'
+    mti[2] == b'0'
 }
 
-// Whether the MTI in the head is a response's: its third digit is 1.
-fn is_response(notes: &[u8]) -> bool
-    requires { ⌜ 6 ≤ length (now notes) ⌝ }
-    ensures { λ r. ⌜ r ≡ isResponse (mtiIn (now (notes .entry))) ⌝ }
+// Whether the MTI is a response's: its third digit is 1.
+fn is_response(mti: &[u8]) -> bool
+    requires { ⌜ length (now mti) ≡ 4 ⌝ }
+    ensures { λ r. ⌜ r ≡ isResponse (now (mti .entry)) ⌝ }
 {
-    notes[3] == b'1'
+    mti[2] == b'1'
 }

@@ -13,14 +13,14 @@ missing-of-response-requires c κs = search needs
 returns : tie.Need-returns
 returns c = search (no-card, needs)
 
-is-present-requires : tie.Need-is-present-requires
-is-present-requires c κs = search needs
+has-requires : tie.Need-has-requires
+has-requires c κs = search needs
 
 returns-2 : tie.Need-returns-2
 returns-2 c = search (no-2, needs)
 
-is-present-requires-2 : tie.Need-is-present-requires-2
-is-present-requires-2 c κs = search needs
+has-requires-2 : tie.Need-has-requires-2
+has-requires-2 c κs = search needs
 
 returns-3 : tie.Need-returns-3
 returns-3 c = search (no-4, needs)
@@ -38,9 +38,9 @@ missing-behind-spec =
     is-card-request-requires
     missing-of-response-requires
     returns
-    is-present-requires
+    has-requires
     returns-2
-    is-present-requires-2
+    has-requires-2
     returns-3
     missing-of-response-requires-2
     returns-4)

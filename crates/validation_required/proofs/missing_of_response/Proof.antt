@@ -10,8 +10,8 @@ is-response-requires c κs = search needs
 returns : tie.Need-returns
 returns c = search (no-response, needs)
 
-is-present-requires : tie.Need-is-present-requires
-is-present-requires c κs = search needs
+has-requires : tie.Need-has-requires
+has-requires c κs = search needs
 
 returns-2 : tie.Need-returns-2
 returns-2 c = search (no-39, needs)
@@ -21,4 +21,4 @@ returns-3 c = search (all-there, needs)
 
 pub missing-of-response-spec : {M : Type 1} → statement M
 missing-of-response-spec =
-    tie.close (tie.spec is-response-requires returns is-present-requires returns-2 returns-3)
+    tie.close (tie.spec is-response-requires returns has-requires returns-2 returns-3)
