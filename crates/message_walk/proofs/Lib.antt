@@ -1,4 +1,5 @@
 pub mod Agreeing
+pub mod Behind
 pub mod Ends
 pub mod Heads
 pub mod Loops

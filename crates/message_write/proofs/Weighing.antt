@@ -24,7 +24,7 @@ use Rattle.message_walk.specs.declared.Walked.the-variants.{Refused as WalkRefu
 use Rattle.message_walk.specs.Walk.{Fault}
 use Rattle.message_walk.proofs.Steps.{Good}
 use Rattle.message_walk.proofs.Naming.{Naming, naming-first, naming-next, naming-done}
-use Rattle.message_write.specs.Written.{sizeIn, shortOn, sizeOn}
+use Rattle.message_write.specs.Written.{sizeIn, sizeMost, shortOn, sizeOn}
 
 -- `with_short`
 module _ (t : Table) (s s′ : List ℕ) (f z : ℕ) (flag : Bool) (tested : flag ≡ isShort t f z) where
@@ -61,13 +61,14 @@ pub record Weighing (t : Table) (whole : List Entry) (s q : List ℕ) (size last
   pub shorts : setFrom noFields (shortIn t whole) ≡ setFrom q (shortIn t es)
   pub sizes : sizeIn t whole ≡ size + sizeIn t es
   pub bound : size ≤ 67000 * last
+  pub high : last ≤ 192
 
 pub weighing-first : {t : Table} {whole : List Entry} {s q : List ℕ} → s ≡ noFields → q ≡ noFields → Weighing t whole s q 0 0 whole
-weighing-first a b = record { naming = naming-first a; shorts = rw b; sizes = omega arith; bound = omega arith }
+weighing-first a b = record { naming = naming-first a; shorts = rw b; sizes = omega arith; bound = omega arith; high = omega arith }
 
 module _ {t : Table} (small : Bounded t) {whole : List Entry} {s q : List ℕ} {size last f a z : ℕ} {es : List Entry} {p : Fault} {m : ℕ}
     (c : Weighing t whole s q size last (entry f a z ∷ es)) (g : Good p m last f a z) (k : ℕ) (sized : k ≡ taken t f z) where
-  pub weighing-fits : size + k ≤ 67000 * 192
+  pub weighing-fits : size + k ≤ sizeMost
   weighing-fits =
       omega (arith, c .bound, sized, taken-most t f z small, is-low m last f (g .allowed), field-high f (is-field m last f (g .allowed)))
 
@@ -86,6 +87,7 @@ module _ {t : Table} (small : Bounded t) {whole : List Entry} {s q : List ℕ} {
         shorts = c .shorts ∙ shorts-next q′ j;
         sizes = omega (arith, c .sizes, sized);
         bound = omega (arith, c .bound, sized, taken-most t f z small, is-low m last f (g .allowed));
+        high = field-high f (is-field m last f (g .allowed));
       }
 
 module _ {t : Table} {whole : List Entry} {s q : List ℕ} {size last : ℕ} (are : all isField (numbersOf whole) ≡ true) (c : Weighing t whole s q size last []) where
@@ -99,6 +101,9 @@ module _ {t : Table} {whole : List Entry} {s q : List ℕ} {size last : ℕ} (ar
   pub weighed-size : size ≡ sizeIn t whole
   unfolding sizeIn
   weighed-size = omega (arith, c .sizes)
+
+pub weighed-small : {t : Table} {whole : List Entry} {s q : List ℕ} {size last : ℕ} → Weighing t whole s q size last [] → size ≤ sizeMost
+weighed-small c = omega (arith, c .bound, c .high)
 
 -- a refused walk
 module _ (w : Walked) (r : Refusal) (t : Table) (es : List Entry) (e : w ≡ WalkRefused r) where

@@ -18,12 +18,13 @@
 --   entriesBy t v r n, answerBy t v r n out, outputBy t v r n out, paddedBy t v r n out
 --                               == what a writer by the rule r passes, answers, leaves in its output and pads, by the table t
 --   sizeIn t es                 == how many bytes they take, reckoned from their lengths; a length that no note can hold counts as 0
+--   sizeMost                    == no fields take more than that: 67,000 bytes for each of 192 numbers
 --   shortOn w t es, sizeOn w t es
 --                               == the set of the short ones among them, and their size, where the walk that passed them ended as w says;
 --                                  empty and 0 on refusal
 --
 -- Assumes nothing: these are definitions.
-use Prim.Native.Nat.{ℕ, _+_}
+use Prim.Native.Nat.{ℕ, _+_, _*_}
 use mathlib.Core.Bool.{cond}
 use mathlib.Core.List.{List, [], _∷_}
 use lib.Dec.{eqb, leb}
@@ -114,6 +115,9 @@ paddedBy t v r n out = paddedOn (answerBy t v r n out) (setOf (shortIn t (entrie
 unfoldable pub sizeIn : Table → List Entry → ℕ
 sizeIn t [] = 0
 sizeIn t (e ∷ es) = cond (leb (e .size) longest) (writtenSize t (e .number) (e .size)) 0 + sizeIn t es
+
+abbrev pub sizeMost : ℕ
+sizeMost = 67000 * 192
 
 unfoldable pub shortOn : Walked → Table → List Entry → List ℕ
 shortOn (Ended at u) t es = setOf (shortIn t es)

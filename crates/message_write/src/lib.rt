@@ -23,7 +23,7 @@ ghost use Rattle.message_notes.specs.Dialect.{plainForm, headSize, dialect};
 ghost use Rattle.message_notes.specs.Notes.{mtiIn, countIn};
 ghost use Rattle.message_walk.specs.Walk.{headNumber, ending, walked, fieldsOn, listedIn};
 ghost use Rattle.message_walk.specs.Faults.{asked, faultBy};
-ghost use Rattle.message_write.specs.Written.{answered, laidOut, exactAnswer, exactOutput, cleanAnswer, cleanOutput, paddedOn, cleanPadded, bodyOf, messageOf, entriesBy, answerBy, outputBy, paddedBy, sizeIn, shortOn, sizeOn};
+ghost use Rattle.message_write.specs.Written.{answered, laidOut, exactAnswer, exactOutput, cleanAnswer, cleanOutput, paddedOn, cleanPadded, bodyOf, messageOf, entriesBy, answerBy, outputBy, paddedBy, sizeIn, sizeMost, shortOn, sizeOn};
 
 // What the cleaning writer answers: as the exact one, and the set of the fields that it padded, empty where it refuses.
 pub struct Cleaned {
@@ -63,13 +63,7 @@ pub fn write_clean(values: &[u8], notes: &[u8], out: &mut [u8]) -> Cleaned
 }
 
 // Writes by a rule that takes no content which the cleaning writer refuses.
-fn write_by(
-    values: &[u8],
-    notes: &[u8],
-    rule: Rule,
-    table: &[u16],
-    out: &mut [u8],
-) -> Cleaned
+fn write_by(values: &[u8], notes: &[u8], rule: Rule, table: &[u16], out: &mut [u8]) -> Cleaned
     requires { ⌜ ((f : ℕ) (c : List ℕ) → asked (decoded (now table)) rule f c ≡ 0 → asked (decoded (now table)) Rule.Clean f c ≡ 0) ⌝ }
     ensures answers { λ r. ⌜ r .answer ≡ answerBy (decoded (now (table .entry))) (now (values .entry)) rule (now (notes .entry)) (now (out .entry)) ⌝ }
     ensures padded { λ r. ⌜ r .padded .bits ≡ paddedBy (decoded (now (table .entry))) (now (values .entry)) rule (now (notes .entry)) (now (out .entry)) ⌝ }
@@ -83,7 +77,16 @@ fn write_by(
             padded: FieldSet::none(),
         },
         Walked::Ended { at, said } => {
-            let answer = write_ended(values, notes, at, said, weighed.fields, weighed.size, table, out);
+            let answer = write_ended(
+                values,
+                notes,
+                at,
+                said,
+                weighed.fields,
+                weighed.size,
+                table,
+                out,
+            );
             name_padded(answer, weighed.short)
         }
     }
@@ -112,6 +115,7 @@ fn weigh(values: &[u8], notes: &[u8], rule: Rule, table: &[u16]) -> Weighed
     ensures fields { λ r. ⌜ r .fields .bits ≡ fieldsOn (r .end) (entriesBy (decoded (now (table .entry))) (now (values .entry)) rule (now (notes .entry))) ⌝ }
     ensures short { λ r. ⌜ r .short .bits ≡ shortOn (r .end) (decoded (now (table .entry))) (entriesBy (decoded (now (table .entry))) (now (values .entry)) rule (now (notes .entry))) ⌝ }
     ensures size { λ r. ⌜ r .size ≡ sizeOn (r .end) (decoded (now (table .entry))) (entriesBy (decoded (now (table .entry))) (now (values .entry)) rule (now (notes .entry))) ⌝ }
+    ensures small { λ r. ⌜ r .size ≤ sizeMost ⌝ }
 {
     let fault = message_walk::head_fault(notes);
     if fault != 0 {
@@ -127,6 +131,7 @@ fn weigh_fields(values: &[u8], notes: &[u8], rule: Rule, table: &[u16]) -> Weigh
     ensures fields { λ r. ⌜ r .fields .bits ≡ fieldsOn (r .end) (entriesBy (decoded (now (table .entry))) (now (values .entry)) rule (now (notes .entry))) ⌝ }
     ensures short { λ r. ⌜ r .short .bits ≡ shortOn (r .end) (decoded (now (table .entry))) (entriesBy (decoded (now (table .entry))) (now (values .entry)) rule (now (notes .entry))) ⌝ }
     ensures size { λ r. ⌜ r .size ≡ sizeOn (r .end) (decoded (now (table .entry))) (entriesBy (decoded (now (table .entry))) (now (values .entry)) rule (now (notes .entry))) ⌝ }
+    ensures small { λ r. ⌜ r .size ≤ sizeMost ⌝ }
 {
     let count = message_notes::count_in(notes);
     let mut fields = FieldSet::none();
@@ -208,6 +213,7 @@ fn write_ended(
     requires { ⌜ listedIn plainForm (now notes) ≡ entriesBy (decoded (now table)) (now values) Rule.Clean (now notes) ⌝ }
     requires { ⌜ fields .bits ≡ setOf (numbersOf (listedIn plainForm (now notes))) ⌝ }
     requires { ⌜ size ≡ sizeIn (decoded (now table)) (listedIn plainForm (now notes)) ⌝ }
+    requires { ⌜ size ≤ sizeMost ⌝ }
     ensures answers { λ r. ⌜ r ≡ answered (Walked.Ended at said) (messageOf (decoded (now (table .entry))) (now (values .entry)) (mtiIn (now (notes .entry))) (countIn (now (notes .entry))) (listedIn plainForm (now (notes .entry)))) (now (out .entry)) ⌝ }
     ensures writes { λ _. ⌜ now (out .exit) ≡ laidOut (Walked.Ended at said) (messageOf (decoded (now (table .entry))) (now (values .entry)) (mtiIn (now (notes .entry))) (countIn (now (notes .entry))) (listedIn plainForm (now (notes .entry)))) (now (out .entry)) ⌝ }
 {

@@ -1,11 +1,10 @@
 pub mod Cleaning
-pub mod Contents
 pub mod Fields
+pub mod House
+pub mod Ignoring
 pub mod LookedUp
-pub mod Made
-pub mod Maps
 pub mod Noted
+pub mod Refusals
 pub mod Rereading
 pub mod RoundTrip
 pub mod Shorts
-pub mod Refusals

@@ -1,6 +1,6 @@
 -- No refusal changes a lent buffer (specs/Refusals.antt). Assumes nothing.
 use Prim.Native.Nat.{ℕ}
-use mathlib.Core.Path.{_≡_, refl}
+use mathlib.Core.Path.{_≡_}
 use mathlib.Core.List.{List}
 use native.Mathlib.Omega.{arith}
 use lib.ListN.{length}
@@ -10,17 +10,25 @@ use Rattle.octets.proofs.Cases.{by-bool}
 use Rattle.refusal.specs.Refusals.{converted, convertedInto}
 use Rattle.refusal.specs.declared.Refusal.{Refusal}
 use Rattle.refusal.specs.declared.Output.the-variants.{Written, Refused}
-use Rattle.field_table.specs.Table.{Table}
-use Rattle.field_table.specs.House.{house}
+use Rattle.message_notes.specs.Dialect.{Dialect}
 use Rattle.message_reader.specs.Reader.{readAnswer, notesAfter}
 use Rattle.message_reader.specs.declared.ReadAnswer.the-variants.{Refused as NotRead}
-use Rattle.message_walk.specs.Walk.{Test, Ending, bad, ends, walked}
-use Rattle.message_write.specs.Written.{bytesBy, answered, laidOut, answerOn, outputOn, answerBy, outputBy}
+use Rattle.message_walk.specs.Walk.{walked}
+use Rattle.message_write.specs.Written.{exactly, cleanly, exactMessage, cleanMessage, exactAnswer, exactOutput, cleanAnswer, cleanOutput}
+use Rattle.message_write.proofs.Answered.{refused-kept}
 use Rattle.round_trip.specs.Refusals.{Keeps}
 
-kept-notes : (t : Table) (s b : List ℕ) (r : Refusal) → readAnswer t s b ≡ NotRead r → notesAfter t s b ≡ b
+kept-notes : (d : Dialect) (s b : List ℕ) (r : Refusal) → readAnswer d s b ≡ NotRead r → notesAfter d s b ≡ b
 unfolding notesAfter
-kept-notes t s b r e = rw (notesAfter, e)
+kept-notes d s b r e = rw (notesAfter, e)
+
+kept-exact : (d : Dialect) (v n out : List ℕ) (r : Refusal) → exactAnswer d v n out ≡ Refused r → exactOutput d v n out ≡ out
+unfolding exactAnswer exactOutput
+kept-exact d v n out r e = refused-kept (walked d (exactly d v) n) (exactMessage d v n) out r e
+
+kept-clean : (d : Dialect) (v n out : List ℕ) (r : Refusal) → cleanAnswer d v n out ≡ Refused r → cleanOutput d v n out ≡ out
+unfolding cleanAnswer cleanOutput
+kept-clean d v n out r e = refused-kept (walked d (cleanly d v) n) (cleanMessage d v n) out r e
 
 -- bytes are laid only where they fit, and there the length is answered
 not-written : {n : ℕ} {r : Refusal} → Written n ≡ Refused r → ⊥
@@ -33,24 +41,5 @@ kept-converted x c out r e =
     (λ z. by-bool (leb (length c) (length out)) (λ f. absurd (not-written (rw (z, f) at e))) (λ f. rw (z, f)))
     (λ z. rw z)
 
-kept-answered : (at u : ℕ) (c out : List ℕ) (r : Refusal) → answered at u c out ≡ Refused r → laidOut u c out ≡ out
-unfolding answered laidOut placed
-kept-answered at u c out r e =
-    by-bool (eqb u (length c))
-    (λ z. by-bool (leb (length c) (length out)) (λ f. absurd (not-written (rw (z, f) at e))) (λ f. rw (z, f)))
-    (λ z. rw z)
-
-kept-on : (w : Ending) (c out : List ℕ) (r : Refusal) → answerOn w c out ≡ Refused r → outputOn w c out ≡ out
-unfolding answerOn outputOn
-kept-on (bad q) c out r e = refl
-kept-on (ends at u) c out r e = kept-answered at u c out r e
-
-kept-output : (t : Table) (p : Test) (v n out : List ℕ) (r : Refusal) → answerBy p t v n out ≡ Refused r → outputBy p t v n out ≡ out
-unfolding answerBy outputBy
-kept-output t p v n out r e = kept-on (walked p v n) (bytesBy p t v n) out r e
-
-pub keeps : (t : Table) → Keeps t
-keeps t = record { notes = kept-notes t; output = kept-output t; converted = kept-converted }
-
-pub house-keeps : Keeps house
-house-keeps = keeps house
+pub keeps : (d : Dialect) → Keeps d
+keeps d = record { notes = kept-notes d; exact-output = kept-exact d; clean-output = kept-clean d; conversion = kept-converted }

@@ -16,7 +16,7 @@ use Rattle.message_walk.proofs.Ends.{counted, refused-none}
 use Rattle.message_walk.proofs.Loops.{Walking, walking-first, Turn, turn-refused, turn-end, turn-done, turn-room, turn-good, turn-here, turn-next}
 use Rattle.message_walk.proofs.Naming.{numbers-are, entries-good}
 use Rattle.message_write.specs.Written.{entriesBy, shortOn, sizeOn}
-use Rattle.message_write.proofs.Weighing.{Weighing, weighing-first, weighing-fits, weighing-next, weighed-fields, weighed-short, weighed-size, short-none, size-none}
+use Rattle.message_write.proofs.Weighing.{Weighing, weighing-first, weighing-fits, weighing-next, weighed-fields, weighed-short, weighed-size, weighed-small, short-none, size-none}
 use borrow.Author.Needs.{needs}
 use Rattle.message_write.proofs.weigh_fields.Statement.{statement}
 use Rattle.message_write.proofs.weigh_fields.Tie as tie
@@ -29,7 +29,7 @@ use Rattle.message_write.proofs.refused_at.Reads as refused-at-reads
 use Rattle.message_write.proofs.with_short.Reads as with-short-reads
 
 abbrev Inv-loop : tie.InvT-loop
-Inv-loop values notes rule table count fields₀ short₀ size₀ last₀ at₀ fields short size last at = 
+Inv-loop values notes rule table count fields₀ short₀ size₀ last₀ at₀ fields short size last at =
     Walking plainForm (faultBy (decoded table) values rule) notes
     (ending plainForm (faultBy (decoded table) values rule) (countIn notes) (length notes) 0 headSize (drop headSize notes))
     (Weighing (decoded table) (entriesBy (decoded table) values rule notes) (fields .bits) (short .bits) size last)
@@ -99,23 +99,24 @@ refused-at-requires : tie.Need-refused-at-requires Inv-loop μ-loop
 refused-at-requires c κs = search needs
 
 returns : tie.Need-returns Inv-loop μ-loop
-returns c = 
+returns c =
     let k = c .before .before in
-    let r = c .refused-at .ensures in
-    (r .0 ∙ turn-refused (turn-at (k .before .before)) (k .number .given .1),
-    (r .1 .0 ∙ refused-none _ _ _ (r .0), (r .1 .1 .0 ∙ short-none _ _ _ _ (r .0), r .1 .1 .1 ∙ size-none _ _ _ _ (r .0))))
+    let r = c .refused-at .ensures in (
+      r .0 ∙ turn-refused (turn-at (k .before .before)) (k .number .given .1),
+      (r .1 .0 ∙ refused-none _ _ _ (r .0), (r .1 .1 .0 ∙ short-none _ _ _ _ (r .0), (r .1 .1 .1 ∙ size-none _ _ _ _ (r .0), omega (arith, r .1 .1 .1)))),
+    )
 
 enum-known-said : tie.Need-enum-known-said Inv-loop μ-loop
 enum-known-said c = search needs
 
 returns-2 : tie.Need-returns-2 Inv-loop μ-loop
 unfolding fieldsOn shortOn sizeOn entriesBy
-returns-2 c = 
+returns-2 c =
     let k = turn-at (c .before .before .before) in
     let is = c .before .said .given .1 in
     let w = turn-done k is in
     let are = numbers-are _ _ _ (entries-good _ _ _) in
-    (turn-end k is, (weighed-fields are w, (weighed-short are w, weighed-size are w)))
+    (turn-end k is, (weighed-fields are w, (weighed-short are w, (weighed-size are w, weighed-small w))))
 
 enum-known-number-2 : tie.Need-enum-known-number-2 Inv-loop μ-loop
 enum-known-number-2 c = search needs
@@ -130,13 +131,13 @@ written-size-requires : tie.Need-written-size-requires Inv-loop μ-loop
 written-size-requires c κs = search needs
 
 add-size : tie.Need-add-size Inv-loop μ-loop
-add-size c = 
+add-size c =
     let j = judged-in c in
     let is = c .before .before .before .before .number2 .given .1 in
     omega (arith, weighing-fits (decoded-bounded _) (turn-here (turn-at j) is) (turn-good (turn-at j) is) _ (c .written-size .ensures))
 
 add-at : tie.Need-add-at Inv-loop μ-loop
-add-at c = 
+add-at c =
     let j = judged-in c in
     omega (arith, turn-room (turn-at j) (c .before .before .before .before .number2 .given .1), start (here j) .good .1 .0)
 
@@ -144,7 +145,7 @@ loop-less : tie.Need-loop-less Inv-loop μ-loop
 loop-less c = omega (arith, turn-room (turn-at (judged-in c)) (c .before .before .before .before .number2 .given .1))
 
 loop-again : tie.Need-loop-again Inv-loop μ-loop
-loop-again c = 
+loop-again c =
     let k = turn-at (judged-in c) in
     let is = c .before .before .before .before .number2 .given .1 in
     turn-next k is

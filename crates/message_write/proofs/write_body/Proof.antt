@@ -120,17 +120,17 @@ add-written : tie.Need-add-written Inv-loop μ-loop
 add-written c = omega (arith, fits (c .before .before .before .before .before))
 
 add-at : tie.Need-add-at Inv-loop μ-loop
-add-at c = 
+add-at c =
     let k = c .before .before .before .before .before .before in
     omega (arith, read-room (turn-at (read-in k)) (k .before .number .given .1), start (here (read-in k)) .good .1 .0)
 
 loop-less : tie.Need-loop-less Inv-loop μ-loop
-loop-less c = 
+loop-less c =
     let k = c .before .before .before .before .before .before in
     omega (arith, read-room (turn-at (read-in k)) (k .before .number .given .1))
 
 loop-again : tie.Need-loop-again Inv-loop μ-loop
-loop-again c = 
+loop-again c =
     let s = c .before .before .before .before .before in
     let k = s .before in
     read-next (turn-at (read-in k)) (k .before .number .given .1)
