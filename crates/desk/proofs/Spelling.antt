@@ -13,10 +13,9 @@ use Rattle.refusal.specs.declared.Output.{Output}
 use Rattle.refusal.specs.declared.Output.the-variants.{Written, Refused}
 use Rattle.bitmap.specs.Bits.{bit, byteOf, bytesOf}
 use Rattle.bitmap.specs.Bitmaps.{noFields, setOf}
-use Rattle.field_table.specs.Table.{Table}
-use Rattle.message_language.specs.Language.{Entry}
+use Rattle.message_contents.specs.Contents.{shortIn}
 use Rattle.message_walk.specs.Walk.{entriesIn}
-use Rattle.message_write.specs.Written.{answerBy, paddedOn, paddedBy, shortIn}
+use Rattle.message_write.specs.Written.{cleanly, cleanAnswer, paddedOn, cleanPadded}
 use Rattle.desk_terms.specs.Terms.{cleaned, wordAt}
 use Rattle.desk.specs.Padded.{bytesIn, SpellThePadded}
 
@@ -52,11 +51,11 @@ none-spells : (told : Told) → bytesIn (cleaned told noFields) ≡ noFields
 unfolding bytesIn cleaned wordAt digits number
 none-spells told = refl
 
-answer-spells : (told : Told) (r : Output) (t : Table) (es : List Entry) → bytesIn (cleaned told (paddedOn r t es)) ≡ paddedOn r t es
+answer-spells : (told : Told) (r : Output) (fs : List ℕ) → bytesIn (cleaned told (paddedOn r (setOf fs))) ≡ paddedOn r (setOf fs)
 unfolding paddedOn
-answer-spells told (Written k) t es = set-spells told (shortIn t es)
-answer-spells told (Refused r) t es = none-spells told
+answer-spells told (Written k) fs = set-spells told fs
+answer-spells told (Refused r) fs = none-spells told
 
 pub spell-the-padded : SpellThePadded
-unfolding SpellThePadded paddedBy
-spell-the-padded told p t v n out = answer-spells told (answerBy p t v n out) t (entriesIn p v n)
+unfolding SpellThePadded cleanPadded
+spell-the-padded told d v n out = answer-spells told (cleanAnswer d v n out) (shortIn (d .table) (entriesIn d (cleanly d v) n))

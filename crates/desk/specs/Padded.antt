@@ -1,7 +1,7 @@
 -- The three words of a cleaning's answer lose nothing of its set of fields.
 --
 --   bytesIn c         == the 24 bytes that the words of the answer c spell
---   SpellThePadded    == they are the padded set that the cleaning writer names, whatever the test, the table and the call
+--   SpellThePadded    == they are the padded set that the cleaning writer names, whatever the dialect and the call
 --
 -- proofs/Spelling.antt proves it.
 use Prim.Native.Nat.{ℕ}
@@ -9,9 +9,8 @@ use mathlib.Core.Path.{_≡_}
 use mathlib.Core.List.{List, _++_}
 use Rattle.octets.specs.Numbers.{bigEndian}
 use Rattle.refusal.specs.Refusals.{Told}
-use Rattle.field_table.specs.Table.{Table}
-use Rattle.message_walk.specs.Walk.{Test}
-use Rattle.message_write.specs.Written.{paddedBy}
+use Rattle.message_notes.specs.Dialect.{Dialect}
+use Rattle.message_write.specs.Written.{cleanPadded}
 use Rattle.desk_terms.specs.Terms.{cleaned}
 use Rattle.desk_terms.specs.declared.Cleaned.{Cleaned}
 
@@ -19,4 +18,4 @@ unfoldable pub bytesIn : Cleaned → List ℕ
 bytesIn c = bigEndian 8 (c .padded1) ++ (bigEndian 8 (c .padded2) ++ bigEndian 8 (c .padded3))
 
 unfoldable pub SpellThePadded : Type 0
-SpellThePadded = (told : Told) (p : Test) (t : Table) (v n out : List ℕ) → bytesIn (cleaned told (paddedBy p t v n out)) ≡ paddedBy p t v n out
+SpellThePadded = (told : Told) (d : Dialect) (v n out : List ℕ) → bytesIn (cleaned told (cleanPadded d v n out)) ≡ cleanPadded d v n out

@@ -15,10 +15,8 @@ ghost use Rattle.encoding_length.specs.Lengths.{toldLength};
 ghost use Rattle.field_table.specs.House.{house};
 ghost use Rattle.message_notes.specs.Dialect.{dialect};
 ghost use Rattle.message_reader.specs.Reader.{toldRead, readAnswer, notesAfter};
-ghost use Rattle.message_walk.specs.Answers.{testOf};
-ghost use Rattle.message_walk.specs.declared.Rule.the-variants.{Exact, Clean};
 ghost use Rattle.message_lookup.specs.Lookup.{toldFound, lookedUp};
-ghost use Rattle.message_write.specs.Written.{answerBy, outputBy, paddedBy};
+ghost use Rattle.message_write.specs.Written.{exactAnswer, exactOutput, cleanAnswer, cleanOutput, cleanPadded};
 ghost use Rattle.validation_pan.specs.Pan.{panFault};
 ghost use Rattle.validation_dates.specs.Dates.{dateFault, timeFault};
 ghost use Rattle.validation_field.specs.Checks.{fieldFault};
@@ -35,16 +33,16 @@ pub extern "C" fn obol_read(message: &[u8], notes: &mut [u8]) -> Reading
 
 #[no_mangle]
 pub extern "C" fn obol_write_exact(values: &[u8], notes: &[u8], out: &mut [u8]) -> Written
-    ensures answers { λ r. ⌜ r ≡ written (told (answerBy (testOf house Exact) house (now (values .entry)) (now (notes .entry)) (now (out .entry)))) ⌝ }
-    ensures writes { λ _. ⌜ now (out .exit) ≡ outputBy (testOf house Exact) house (now (values .entry)) (now (notes .entry)) (now (out .entry)) ⌝ }
+    ensures answers { λ r. ⌜ r ≡ written (told (exactAnswer (dialect house) (now (values .entry)) (now (notes .entry)) (now (out .entry)))) ⌝ }
+    ensures writes { λ _. ⌜ now (out .exit) ≡ exactOutput (dialect house) (now (values .entry)) (now (notes .entry)) (now (out .entry)) ⌝ }
 {
     desk_terms::tell_written(message_write::write_exact(values, notes, out))
 }
 
 #[no_mangle]
 pub extern "C" fn obol_write_clean(values: &[u8], notes: &[u8], out: &mut [u8]) -> Cleaned
-    ensures answers { λ r. ⌜ r ≡ cleaned (told (answerBy (testOf house Clean) house (now (values .entry)) (now (notes .entry)) (now (out .entry)))) (paddedBy (testOf house Clean) house (now (values .entry)) (now (notes .entry)) (now (out .entry))) ⌝ }
-    ensures writes { λ _. ⌜ now (out .exit) ≡ outputBy (testOf house Clean) house (now (values .entry)) (now (notes .entry)) (now (out .entry)) ⌝ }
+    ensures answers { λ r. ⌜ r ≡ cleaned (told (cleanAnswer (dialect house) (now (values .entry)) (now (notes .entry)) (now (out .entry)))) (cleanPadded (dialect house) (now (values .entry)) (now (notes .entry)) (now (out .entry))) ⌝ }
+    ensures writes { λ _. ⌜ now (out .exit) ≡ cleanOutput (dialect house) (now (values .entry)) (now (notes .entry)) (now (out .entry)) ⌝ }
 {
     let done = message_write::write_clean(values, notes, out);
     let answer = done.answer;
