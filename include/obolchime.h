@@ -1,8 +1,9 @@
 /*
  * Obolchime: ISO 8583:1987 messages, for C and for whatever can call C.
  *
- * The functions are those of the static library that `rt staticlib desk` writes, target/staticlib/libdesk.a (x86-64 Linux). Each is
- * proved to answer exactly what its definition says, on every input: see the `ensures` in crates/desk/src/lib.rt. What the proof asks
+ * The functions are those of the static library that `rt staticlib desk` writes, target/staticlib/libdesk.a. It links into x86-64 Linux
+ * programs alone, on whatever machine `rt` wrote it; on Arm, x86_64-linux-gnu-gcc builds them and bridge/x86-64 runs them. Each function
+ * is proved to answer exactly what its definition says, on every input: see the `ensures` in crates/desk/src/lib.rt. What the proof asks
  * of a C caller, who can break it, is this:
  *
  *   - A pointer and the length after it name that many bytes, which can be read, and written where the pointer is not const.

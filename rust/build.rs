@@ -5,6 +5,12 @@ use std::path::PathBuf;
 
 fn main() {
     println!("cargo:rerun-if-env-changed=OBOLCHIME_LIB_DIR");
+    let of_target = |name: &str| env::var(name).expect("cargo sets it");
+    if of_target("CARGO_CFG_TARGET_ARCH") != "x86_64" || of_target("CARGO_CFG_TARGET_OS") != "linux" {
+        // said here, since the linker would take a page for it
+        eprintln!("libdesk.a is for x86-64 Linux and not for {}: build with `--target x86_64-unknown-linux-gnu`", of_target("TARGET"));
+        std::process::exit(1);
+    }
     let folder = match env::var_os("OBOLCHIME_LIB_DIR") {
         Some(folder) => PathBuf::from(folder),
         None => PathBuf::from(env::var_os("CARGO_MANIFEST_DIR").expect("cargo sets it")).join("../target/staticlib"),
