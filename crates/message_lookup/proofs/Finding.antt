@@ -8,24 +8,22 @@ use lib.ListN.{length, take, drop}
 use borrow.Author.Tests.{eq-eqb, ne-eqb}
 use Rattle.octets.proofs.Cases.{by-eq}
 use Rattle.refusal.specs.Numbers.{fieldAbsent}
-use Rattle.refusal.specs.Refusals.{refusal, Told}
+use Rattle.refusal.specs.Refusals.{refusal}
 use Rattle.refusal.specs.declared.Refusal.{Refusal}
-use Rattle.field_table.specs.Table.{Table}
 use Rattle.message_language.specs.Language.{Entry, entry}
-use Rattle.message_notes.specs.Dialect.{Form, headSize, Dialect, dialect}
+use Rattle.message_notes.specs.Dialect.{headSize, Dialect}
 use Rattle.message_notes.specs.Notes.{countIn}
-use Rattle.message_walk.specs.declared.Rule.the-variants.{Any}
 use Rattle.message_walk.specs.declared.Walked.{Walked}
 use Rattle.message_walk.specs.declared.Walked.the-variants.{Ended, Refused as WalkRefused}
-use Rattle.message_walk.specs.Walk.{Fault, walked, entriesIn, listedIn}
-use Rattle.message_walk.specs.Faults.{any, asked, within, faultBy}
+use Rattle.message_walk.specs.Walk.{walked, entriesIn, listedIn}
+use Rattle.message_walk.specs.Faults.{any, within}
 use Rattle.message_walk.proofs.Heads.{good-head, ended-head}
 use Rattle.message_walk.proofs.Naming.{AllGood, entries-good}
 use Rattle.message_walk.proofs.Weaker.{walked-listed}
 use Rattle.message_walk.proofs.Within.{is-inside}
 use Rattle.message_lookup.specs.declared.Found.{Found}
 use Rattle.message_lookup.specs.declared.Found.the-variants.{At, Refused}
-use Rattle.message_lookup.specs.Lookup.{foundIn, foundBy, lookedUp, toldFound, startOf, sizeOf}
+use Rattle.message_lookup.specs.Lookup.{foundIn, foundBy, lookedUp, startOf, sizeOf}
 
 pub absent-is : (f at : ℕ) → Refused (refusal fieldAbsent f at) ≡ foundIn f at []
 unfolding foundIn
@@ -51,34 +49,19 @@ module _ {f end : ℕ} {whole : List Entry} where
     unfolding foundIn
     finding-next ne = record { same = c .same ∙ rw (foundIn, ne-eqb g f ne) }
 
--- `look_up_by`: lookup asks nothing of contents
-pub any-is : (t : Table) (v : List ℕ) → faultBy t v Any ≡ within v any
-unfolding faultBy asked
-any-is t v = refl
-
-module _ (t : Table) (v n : List ℕ) (f : ℕ) (w : Walked) (e : w ≡ walked (dialect t) (faultBy t v Any) n) where
-  is-walked : w ≡ walked (dialect t) (within v any) n
-  is-walked = e ∙ ap (λ (p : Fault). walked (dialect t) p n) (any-is t v)
-
-  pub looked-refused : (r : Refusal) → w ≡ WalkRefused r → Refused r ≡ lookedUp (dialect t) v n f
+-- `look_up`
+module _ (d : Dialect) (v n : List ℕ) (f : ℕ) (w : Walked) (e : w ≡ walked d (within v any) n) where
+  pub looked-refused : (r : Refusal) → w ≡ WalkRefused r → Refused r ≡ lookedUp d v n f
   unfolding lookedUp foundBy
-  looked-refused r h = rw (lookedUp, ← is-walked, h)
+  looked-refused r h = rw (lookedUp, ← e, h)
 
   pub looked-head : (at u : ℕ) → w ≡ Ended at u → headSize ≤ length n
-  looked-head at u h = good-head 3 n (ended-head (dialect t) (within v any) n at u (sym is-walked ∙ h)) .whole
+  looked-head at u h = good-head (d .most) n (ended-head d (within v any) n at u (sym e ∙ h)) .whole
 
-  pub looked-found : (at u : ℕ) (r : Found) → w ≡ Ended at u → r ≡ foundIn f at (listedIn (dialect t .form) n) → r ≡ lookedUp (dialect t) v n f
+  pub looked-found : (at u : ℕ) (r : Found) → w ≡ Ended at u → r ≡ foundIn f at (listedIn (d .form) n) → r ≡ lookedUp d v n f
   unfolding lookedUp foundBy
-  looked-found at u r h d =
-      rw (lookedUp, ← is-walked, h) (d ∙ ap (foundIn f at) (walked-listed (dialect t) (within v any) n at u (sym is-walked ∙ h)))
-
--- `look_up`: the numbers that it lends stand for another table
-module _ (t u : Table) (v n : List ℕ) (f : ℕ) (same : t ≡ u) where
-  pub looked-by : (r : Found) → r ≡ lookedUp (dialect t) v n f → r ≡ lookedUp (dialect u) v n f
-  looked-by r e = e ∙ ap (λ (x : Table). lookedUp (dialect x) v n f) same
-
-  pub told-by : (r : Found) → r ≡ lookedUp (dialect t) v n f → toldFound r ≡ toldFound (lookedUp (dialect u) v n f)
-  told-by r e = ap toldFound (looked-by r e)
+  looked-found at u r h i =
+      rw (lookedUp, ← e, h) (i ∙ ap (foundIn f at) (walked-listed d (within v any) n at u (sym e ∙ h)))
 
 -- A content that is found lies within the values.
 found-inside : (v : List ℕ) (m f end : ℕ) (es : List Entry) → AllGood (within v any) m es → (o z : ℕ) → foundIn f end es ≡ At o z → o + z ≤ length v

@@ -1,6 +1,5 @@
 // Lookup: where a field's content lies in the values, and the content itself. 01, "Notes" and "Lookup walks".
 use message_notes::Note;
-use message_walk::Rule;
 use message_walk::Walked;
 use refusal::Refusal;
 ghost use mathlib.Core.Path.{_≡_};
@@ -8,7 +7,6 @@ ghost use mathlib.Core.List.{[]};
 ghost use Prim.Native.Nat.{_+_, _≤_};
 ghost use lib.ListN.{length, take, drop};
 ghost use Rattle.field_table.specs.House.{house};
-ghost use Rattle.field_table.specs.Codes.{decoded};
 ghost use Rattle.message_notes.specs.Dialect.{plainForm, headSize, dialect};
 ghost use Rattle.message_walk.specs.Walk.{listedIn};
 ghost use Rattle.message_lookup.specs.Lookup.{foundIn, lookedUp, toldFound, startOf, sizeOf};
@@ -24,8 +22,12 @@ pub fn look_up(values: &[u8], notes: &[u8], number: usize) -> Found
     ensures answers { λ r. ⌜ r ≡ lookedUp (dialect house) (now (values .entry)) (now (notes .entry)) number ⌝ }
     ensures tells { λ r. ⌜ toldFound r ≡ toldFound (lookedUp (dialect house) (now (values .entry)) (now (notes .entry)) number) ⌝ }
 {
-    let table = field_table::house_table();
-    look_up_by(values, notes, number, &table)
+    let walk = message_walk::walk(values, notes);
+    let end = walk.end;
+    match end {
+        Walked::Refused(refusal) => Found::Refused(refusal),
+        Walked::Ended { at, said: _ } => find(notes, number, at),
+    }
 }
 
 // The field's content, as a part of the values; the empty part at their front where lookup refuses.
@@ -39,18 +41,6 @@ pub fn content<'a, 'b>(values: &'a [u8], notes: &'b [u8], number: usize) -> &'a 
             let end = offset + length;
             &values[offset..end]
         }
-    }
-}
-
-// Lookup by the table lent.
-fn look_up_by(values: &[u8], notes: &[u8], number: usize, table: &[u16]) -> Found
-    ensures { λ r. ⌜ r ≡ lookedUp (dialect (decoded (now (table .entry)))) (now (values .entry)) (now (notes .entry)) number ⌝ }
-{
-    let walk = message_walk::walk(values, notes, Rule::Any, table);
-    let end = walk.end;
-    match end {
-        Walked::Refused(refusal) => Found::Refused(refusal),
-        Walked::Ended { at, said: _ } => find(notes, number, at),
     }
 }
 

@@ -29,7 +29,7 @@ use Rattle.message_walk.specs.declared.Judged.the-variants.{Passed, Refu
 use Rattle.message_walk.specs.declared.Walked.{Walked}
 use Rattle.message_walk.specs.declared.Walked.the-variants.{Refused as WalkRefused}
 use Rattle.message_walk.specs.Walk.{Fault, headNumber, judgedField, judged, ending, walked, entriesIn, fieldsOn, fieldsIn}
-use Rattle.message_walk.specs.Faults.{asked, within, faultBy}
+use Rattle.message_walk.specs.Faults.{any, asked, within, faultBy}
 use Rattle.message_walk.proofs.Steps.{judged-note}
 
 -- `head_fault`, where three bitmaps are taken
@@ -112,29 +112,46 @@ module _ (t : Table) (r : Rule) (v : List ℕ) (f o n : ℕ) (flag : Bool) (plac
   fault-inside h x e =
       rw (← placed, not-false flag h) (e ∙ ap (λ (k : ℕ). asked t r f (take k (drop o v))) (add-sub-cancel-left o n))
 
+-- `place_fault`
+module _ (o n size : ℕ) (flag : Bool) (tested : flag ≡ leb (o + n) size) where
+  pub placed-inside : flag ≡ true → 0 ≡ cond (leb (o + n) size) 0 outsideValues
+  placed-inside y = rw (← tested, y)
+
+  pub placed-outside : flag ≡ false → outsideValues ≡ cond (leb (o + n) size) 0 outsideValues
+  placed-outside y = rw (← tested, y)
+
+pub place-is : (v : List ℕ) (f o n x : ℕ) → x ≡ cond (leb (o + n) (length v)) 0 outsideValues → x ≡ within v any (entry f o n)
+unfolding within
+place-is v f o n x e = e
+
 -- `judge_field`
-module _ (p : Fault) (m last f o n : ℕ) (flag : Bool) (numbered : flag ≡ numberAllowed m last f) where
-  pub field-number : not flag ≡ true → Refused numberNotAllowed f ≡ judgedField true p m last f o n
+module _ (x m last f o n : ℕ) (flag : Bool) (numbered : flag ≡ numberAllowed m last f) where
+  pub field-number : not flag ≡ true → Refused numberNotAllowed f ≡ judgedField true (λ (e : Entry). x) m last f o n
   unfolding judgedField
   field-number t = rw (← numbered, not-true flag t)
 
-  module _ (good : not flag ≡ false) (fault : ℕ) (found : fault ≡ p (entry f o n)) where
-    pub field-fault : (fault ≡ 0 → ⊥) → Refused fault f ≡ judgedField true p m last f o n
-    unfolding judgedField
-    field-fault h = rw (← numbered, not-false flag good, ← found, ne-eqb fault 0 h)
+  pub field-fault : not flag ≡ false → (x ≡ 0 → ⊥) → Refused x f ≡ judgedField true (λ (e : Entry). x) m last f o n
+  unfolding judgedField
+  field-fault good h = rw (← numbered, not-false flag good, ne-eqb x 0 h)
 
-    pub field-passes : fault ≡ 0 → Passed f o n ≡ judgedField true p m last f o n
-    unfolding judgedField
-    field-passes h = rw (← numbered, not-false flag good, ← found, eq-eqb fault 0 h)
+  pub field-passes : not flag ≡ false → x ≡ 0 → Passed f o n ≡ judgedField true (λ (e : Entry). x) m last f o n
+  unfolding judgedField
+  field-passes good h = rw (← numbered, not-false flag good, eq-eqb x 0 h)
 
 -- 01's form has no mark
 pub plain-marked : (f : ℕ) (s : List ℕ) → isMarked plainForm f s ≡ true
 unfolding isMarked number
 plain-marked f s = refl
 
-pub judged-plain : (p : Fault) (m last : ℕ) (s : List ℕ) (f a n : ℕ) (r : Judged) → noteAt plainForm s ≡ FieldNote f a n → r ≡ judgedField true p m last f a n
-    → r ≡ judged plainForm p m last s
-judged-plain p m last s f a n r h e = e ∙ ap (λ (b : Bool). judgedField b p m last f a n) (sym (plain-marked f s)) ∙ sym (judged-note plainForm p m last s f a n h)
+-- `judge` and `judge_place`: the fault x that was found is what p finds
+pub judged-plain : (p : Fault) (m last : ℕ) (s : List ℕ) (f a n x : ℕ) (r : Judged) → noteAt plainForm s ≡ FieldNote f a n → x ≡ p (entry f a n)
+    → r ≡ judgedField true (λ (e : Entry). x) m last f a n → r ≡ judged plainForm p m last s
+unfolding judgedField
+judged-plain p m last s f a n x r h i e =
+    e
+    ∙ ap (λ (y : ℕ). judgedField true (λ (z : Entry). y) m last f a n) i
+    ∙ ap (λ (b : Bool). judgedField b p m last f a n) (sym (plain-marked f s))
+    ∙ sym (judged-note plainForm p m last s f a n h)
 
 -- `walk_fields`
 pub counted : (F : Form) (p : Fault) (m m′ last : ℕ) (s : List ℕ) (o : Judged) → o ≡ judged F p m last s → m ≡ m′ → o ≡ judged F p m′ last s

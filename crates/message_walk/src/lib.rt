@@ -3,23 +3,24 @@ use bitmap::FieldSet;
 use message_notes::Note;
 use refusal::Refusal;
 ghost use mathlib.Core.Path.{_≡_};
-ghost use mathlib.Core.Bool.{true};
+ghost use mathlib.Core.Bool.{true, cond};
 ghost use Prim.Native.Nat.{_+_, _≤_};
 ghost use lib.ListN.{length, drop};
 ghost use lib.Dec.{leb};
+ghost use Rattle.refusal.specs.Numbers.{outsideValues};
 ghost use Rattle.refusal.specs.Refusals.{refusal};
+ghost use Rattle.field_table.specs.House.{house};
 ghost use Rattle.field_table.specs.Codes.{decoded};
 ghost use Rattle.bitmap.specs.Bitmaps.{noFields};
-ghost use Rattle.message_language.specs.Language.{entry};
+ghost use Rattle.message_language.specs.Language.{Entry, entry};
 ghost use Rattle.message_contents.specs.Contents.{numberAllowed};
 ghost use Rattle.message_notes.specs.Dialect.{plainForm, headSize, dialect};
 ghost use Rattle.message_notes.specs.Notes.{countIn};
 ghost use Rattle.message_walk.specs.Walk.{headNumber, judgedField, judged, ending, walked, entriesIn, fieldsOn, fieldsIn};
-ghost use Rattle.message_walk.specs.Faults.{asked, faultBy};
+ghost use Rattle.message_walk.specs.Faults.{any, asked, within, faultBy};
 
-// What a walk asks of a content besides its place: nothing (lookup), what the exact writer asks, or what the cleaning writer asks.
+// What is asked of a content besides its place: what the exact writer asks, or the cleaning writer. Lookup asks nothing.
 pub enum Rule {
-    Any,
     Exact,
     Clean,
 }
@@ -50,23 +51,16 @@ pub struct Gathered {
     pub fields: FieldSet,
 }
 
-// Walks the notes from the head to the end note, by the rule and the table lent.
-pub fn walk(values: &[u8], notes: &[u8], rule: Rule, table: &[u16]) -> Gathered
-    ensures end { λ r. ⌜ r .end ≡ walked (dialect (decoded (now (table .entry)))) (faultBy (decoded (now (table .entry))) (now (values .entry)) rule) (now (notes .entry)) ⌝ }
-    ensures fields { λ r. ⌜ r .fields .bits ≡ fieldsIn (dialect (decoded (now (table .entry)))) (faultBy (decoded (now (table .entry))) (now (values .entry)) rule) (now (notes .entry)) ⌝ }
+// Walks the notes from the head to the end note, as lookup does: nothing is asked of a content but that it lies within the values.
+pub fn walk(values: &[u8], notes: &[u8]) -> Gathered
+    ensures end { λ r. ⌜ r .end ≡ walked (dialect house) (within (now (values .entry)) any) (now (notes .entry)) ⌝ }
+    ensures fields { λ r. ⌜ r .fields .bits ≡ fieldsIn (dialect house) (within (now (values .entry)) any) (now (notes .entry)) ⌝ }
 {
     let fault = head_fault(notes);
     if fault != 0 {
-        return Gathered {
-            end: Walked::Refused(Refusal {
-                number: fault,
-                field: 0,
-                position: 0,
-            }),
-            fields: FieldSet::none(),
-        };
+        return refused_at(fault, 0, 0);
     }
-    walk_fields(values, notes, rule, table)
+    walk_fields(values, notes)
 }
 
 // What is wrong with the head: 9, then 3; 0 where nothing is.
@@ -90,17 +84,17 @@ pub fn head_fault(notes: &[u8]) -> u8
 }
 
 // Walks the notes behind a good head.
-fn walk_fields(values: &[u8], notes: &[u8], rule: Rule, table: &[u16]) -> Gathered
+fn walk_fields(values: &[u8], notes: &[u8]) -> Gathered
     requires { ⌜ headSize ≤ length (now notes) ⌝ }
-    ensures end { λ r. ⌜ r .end ≡ ending plainForm (faultBy (decoded (now (table .entry))) (now (values .entry)) rule) (countIn (now (notes .entry))) (length (now (notes .entry))) 0 headSize (drop headSize (now (notes .entry))) ⌝ }
-    ensures fields { λ r. ⌜ r .fields .bits ≡ fieldsOn (r .end) (entriesIn (dialect (decoded (now (table .entry)))) (faultBy (decoded (now (table .entry))) (now (values .entry)) rule) (now (notes .entry))) ⌝ }
+    ensures end { λ r. ⌜ r .end ≡ ending plainForm (within (now (values .entry)) any) (countIn (now (notes .entry))) (length (now (notes .entry))) 0 headSize (drop headSize (now (notes .entry))) ⌝ }
+    ensures fields { λ r. ⌜ r .fields .bits ≡ fieldsOn (r .end) (entriesIn (dialect house) (within (now (values .entry)) any) (now (notes .entry))) ⌝ }
 {
     let count = message_notes::count_in(notes);
     let mut fields = FieldSet::none();
     let mut last: usize = 0;
     let mut at = message_notes::HEAD_SIZE;
     while at <= notes.len() {
-        match judge(values, &notes[at..], count, last, rule, table) {
+        match judge_place(values, &notes[at..], count, last) {
             Judged::Refused { number, field } => {
                 return refused_at(number, field, at);
             }
@@ -139,7 +133,7 @@ fn refused_at(number: u8, field: usize, at: usize) -> Gathered
     }
 }
 
-// Judges the note at the front of rest, where last is the number of the field before it.
+// Judges the note at the front of rest, where last is the number of the field before it, by the rule and the table lent.
 pub fn judge(
     values: &[u8],
     rest: &[u8],
@@ -160,22 +154,44 @@ pub fn judge(
             number,
             offset,
             length,
-        } => judge_field(values, count, last, number, offset, length, rule, table),
+        } => {
+            let fault = fault_of(values, number, offset, length, rule, table);
+            judge_field(count, last, number, offset, length, fault)
+        }
     }
 }
 
-// Judges the note of a field: its number, then what the rule asks of the field.
+// The same where nothing is asked of a content but its place.
+fn judge_place(values: &[u8], rest: &[u8], count: usize, last: usize) -> Judged
+    ensures { λ r. ⌜ r ≡ judged plainForm (within (now (values .entry)) any) count last (now (rest .entry)) ⌝ }
+{
+    match message_notes::read_note(rest) {
+        Note::Malformed => Judged::Refused {
+            number: refusal::NOTE_MALFORMED,
+            field: 0,
+        },
+        Note::End(said) => Judged::End(said),
+        Note::Field {
+            number,
+            offset,
+            length,
+        } => {
+            let fault = place_fault(values.len(), offset, length);
+            judge_field(count, last, number, offset, length, fault)
+        }
+    }
+}
+
+// Judges the note of a field: its number comes before the fault that was found with the field, 0 where there is none.
 fn judge_field(
-    values: &[u8],
     count: usize,
     last: usize,
     number: usize,
     offset: usize,
     length: usize,
-    rule: Rule,
-    table: &[u16],
+    fault: u8,
 ) -> Judged
-    ensures { λ r. ⌜ r ≡ judgedField true (faultBy (decoded (now (table .entry))) (now (values .entry)) rule) count last number offset length ⌝ }
+    ensures { λ r. ⌜ r ≡ judgedField true (λ (e : Entry). fault) count last number offset length ⌝ }
 {
     if !is_number_allowed(count, last, number) {
         return Judged::Refused {
@@ -183,7 +199,6 @@ fn judge_field(
             field: number,
         };
     }
-    let fault = fault_of(values, number, offset, length, rule, table);
     if fault != 0 {
         return Judged::Refused {
             number: fault,
@@ -228,6 +243,16 @@ fn fault_of(
     content_fault(rule, number, &values[offset..end], table)
 }
 
+// 11 where length bytes at offset do not lie within size bytes, else 0.
+fn place_fault(size: usize, offset: usize, length: usize) -> u8
+    ensures { λ r. ⌜ r ≡ cond (leb (offset + length) size) 0 outsideValues ⌝ }
+{
+    if is_inside(size, offset, length) {
+        return 0;
+    }
+    refusal::OUTSIDE_VALUES
+}
+
 // Whether length bytes at offset lie within size bytes; the sum may be more than a number holds.
 fn is_inside(size: usize, offset: usize, length: usize) -> bool
     ensures { λ r. ⌜ r ≡ leb (offset + length) size ⌝ }
@@ -243,7 +268,6 @@ fn content_fault(rule: Rule, number: usize, content: &[u8], table: &[u16]) -> u8
     ensures { λ r. ⌜ r ≡ asked (decoded (now (table .entry))) rule number (now (content .entry)) ⌝ }
 {
     match rule {
-        Rule::Any => 0,
         Rule::Exact => field_write::exact_fault(number, content, table),
         Rule::Clean => field_write::clean_fault(number, content, table),
     }

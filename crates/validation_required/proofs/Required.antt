@@ -17,15 +17,13 @@ use Rattle.refusal.specs.declared.Checked.{Checked}
 use Rattle.refusal.specs.declared.Checked.the-variants.{Passed, Refused}
 use Rattle.field_table.specs.Table.{Table}
 use Rattle.bitmap.specs.Bitmaps.{isField, hasField}
-use Rattle.message_notes.specs.Dialect.{headSize, dialect}
+use Rattle.message_notes.specs.Dialect.{headSize, Dialect}
 use Rattle.message_notes.specs.Notes.{mtiIn}
-use Rattle.message_walk.specs.declared.Rule.the-variants.{Any}
 use Rattle.message_walk.specs.declared.Walked.{Walked}
 use Rattle.message_walk.specs.declared.Walked.the-variants.{Ended, Refused as WalkRefused}
 use Rattle.message_walk.specs.Walk.{Fault, walked, fieldsIn}
-use Rattle.message_walk.specs.Faults.{any, within, faultBy}
+use Rattle.message_walk.specs.Faults.{any, within}
 use Rattle.message_walk.proofs.Heads.{Head, good-head, ended-head}
-use Rattle.message_lookup.proofs.Finding.{any-is}
 use Rattle.validation_required.specs.Required.{secondDigit, thirdDigit, isCardRequest, isResponse, requiredOfResponse, requiredMore, requiredBy, isPresent, firstMissing, missingAnswer, requiredAfter, requiredIn}
 use Rattle.validation_required.proofs.Present.{has-present, same-missing}
 
@@ -135,20 +133,17 @@ are-fields m =
     (λ y. by-bool (isResponse m) (λ z. rw (y, z)) (λ z. rw (y, z)))
 
 -- `check_required_by`: the walk before, and malformed notes are answered as by lookup
-module _ (t : Table) (v n : List ℕ) (w : Walked) (e : w ≡ walked (dialect t) (faultBy t v Any) n) where
-  is-walked : w ≡ walked (dialect t) (within v any) n
-  is-walked = e ∙ ap (λ (p : Fault). walked (dialect t) p n) (any-is t v)
-
-  pub required-malformed : (r : Refusal) → w ≡ WalkRefused r → Refused r ≡ requiredIn (dialect t) v n
+module _ (d : Dialect) (v n : List ℕ) (w : Walked) (e : w ≡ walked d (within v any) n) where
+  pub required-malformed : (r : Refusal) → w ≡ WalkRefused r → Refused r ≡ requiredIn d v n
   unfolding requiredIn requiredAfter
-  required-malformed r h = rw (requiredIn, ← is-walked, h)
+  required-malformed r h = rw (requiredIn, ← e, h)
 
   module _ (at u : ℕ) (h : w ≡ Ended at u) (mti : List ℕ) (part : mti ≡ cond (leb headSize (length n)) (mtiIn n) []) where
-    ended : walked (dialect t) (within v any) n ≡ Ended at u
-    ended = sym is-walked ∙ h
+    ended : walked d (within v any) n ≡ Ended at u
+    ended = sym e ∙ h
 
-    head : Head 3 n
-    head = good-head 3 n (ended-head (dialect t) (within v any) n at u ended)
+    head : Head (d .most) n
+    head = good-head (d .most) n (ended-head d (within v any) n at u ended)
 
     is-mti : mti ≡ mtiIn n
     is-mti = part ∙ ap (λ (b : Bool). cond b (mtiIn n) []) (le-leb headSize (length n) (head .whole))
@@ -156,25 +151,14 @@ module _ (t : Table) (v n : List ℕ) (w : Walked) (e : w ≡ walked (dialect t)
     pub required-mti : length mti ≡ 4
     required-mti = ap length is-mti ∙ head .four
 
-    module _ (s : List ℕ) (gathered : s ≡ fieldsIn (dialect t) (faultBy t v Any) n) where
-      is-gathered : s ≡ fieldsIn (dialect t) (within v any) n
-      is-gathered = gathered ∙ ap (λ (p : Fault). fieldsIn (dialect t) p n) (any-is t v)
-
-      is-missing : firstMissing (hasField s) (requiredBy mti) ≡ firstMissing (isPresent (dialect t) v n) (requiredBy (mtiIn n))
+    module _ (s : List ℕ) (is-gathered : s ≡ fieldsIn d (within v any) n) where
+      is-missing : firstMissing (hasField s) (requiredBy mti) ≡ firstMissing (isPresent d v n) (requiredBy (mtiIn n))
       is-missing =
           ap (λ (m : List ℕ). firstMissing (hasField s) (requiredBy m)) is-mti
-          ∙ same-missing (hasField s) (isPresent (dialect t) v n)
-          (λ f z. ap (λ (x : List ℕ). hasField x f) is-gathered ∙ has-present (dialect t) v n at u ended f z)
+          ∙ same-missing (hasField s) (isPresent d v n)
+          (λ f z. ap (λ (x : List ℕ). hasField x f) is-gathered ∙ has-present d v n at u ended f z)
           (requiredBy (mtiIn n)) (are-fields (mtiIn n))
 
-      pub required-walked : (f : ℕ) → f ≡ firstMissing (hasField s) (requiredBy mti) → (c : Checked) → c ≡ missingAnswer f → c ≡ requiredIn (dialect t) v n
+      pub required-walked : (f : ℕ) → f ≡ firstMissing (hasField s) (requiredBy mti) → (c : Checked) → c ≡ missingAnswer f → c ≡ requiredIn d v n
       unfolding requiredIn requiredAfter
       required-walked f q c k = rw (requiredIn, ended) (k ∙ ap missingAnswer (q ∙ is-missing))
-
--- `check_required`: the numbers that it lends stand for another table
-module _ (t u : Table) (v n : List ℕ) (same : t ≡ u) where
-  pub required-by : (r : Checked) → r ≡ requiredIn (dialect t) v n → r ≡ requiredIn (dialect u) v n
-  required-by r e = e ∙ ap (λ (x : Table). requiredIn (dialect x) v n) same
-
-  pub told-by : (r : Checked) → r ≡ requiredIn (dialect t) v n → toldChecked r ≡ toldChecked (requiredIn (dialect u) v n)
-  told-by r e = ap toldChecked (required-by r e)

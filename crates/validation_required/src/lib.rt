@@ -1,6 +1,5 @@
 // Required fields, by the MTI. 01, "Checks and conversions".
 use bitmap::FieldSet;
-use message_walk::Rule;
 use message_walk::Walked;
 use refusal::Checked;
 use refusal::Refusal;
@@ -8,25 +7,17 @@ ghost use mathlib.Core.Path.{_≡_};
 ghost use lib.ListN.{length};
 ghost use Rattle.refusal.specs.Refusals.{toldChecked};
 ghost use Rattle.field_table.specs.House.{house};
-ghost use Rattle.field_table.specs.Codes.{decoded};
 ghost use Rattle.bitmap.specs.Bitmaps.{hasField};
 ghost use Rattle.message_notes.specs.Dialect.{dialect};
 ghost use Rattle.validation_required.specs.Required.{isCardRequest, isResponse, requiredOfResponse, requiredMore, requiredBy, firstMissing, missingAnswer, requiredIn};
 
-// Checks that the notes name every field that their MTI requires. Malformed notes are answered as by lookup.
+// Checks that the notes name every field that their MTI requires: one walk, and the fields asked of the set that it gathered. Malformed
+// notes are answered as by lookup.
 pub fn check_required(values: &[u8], notes: &[u8]) -> Checked
     ensures answers { λ r. ⌜ r ≡ requiredIn (dialect house) (now (values .entry)) (now (notes .entry)) ⌝ }
     ensures tells { λ r. ⌜ toldChecked r ≡ toldChecked (requiredIn (dialect house) (now (values .entry)) (now (notes .entry))) ⌝ }
 {
-    let table = field_table::house_table();
-    check_required_by(values, notes, &table)
-}
-
-// The check by the table lent: one walk, and the fields asked of the set that it gathered.
-fn check_required_by(values: &[u8], notes: &[u8], table: &[u16]) -> Checked
-    ensures { λ r. ⌜ r ≡ requiredIn (dialect (decoded (now (table .entry)))) (now (values .entry)) (now (notes .entry)) ⌝ }
-{
-    let walk = message_walk::walk(values, notes, Rule::Any, table);
+    let walk = message_walk::walk(values, notes);
     let end = walk.end;
     match end {
         Walked::Refused(refusal) => Checked::Refused(refusal),

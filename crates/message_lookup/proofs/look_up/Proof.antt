@@ -1,25 +1,38 @@
--- By the numbers that are lent, which stand for the house table.
+-- The whole walk is judged, and then the field is found.
+use mathlib.Core.Path.{ap}
 use Prim.Native.Nat.{_-_}
-use Rattle.message_lookup.proofs.Finding.{looked-by, told-by}
+use Rattle.message_lookup.specs.Lookup.{toldFound}
+use Rattle.message_lookup.proofs.Finding.{looked-refused, looked-head, looked-found}
 use borrow.Author.Needs.{needs}
 use Rattle.message_lookup.proofs.look_up.Statement.{statement}
 use Rattle.message_lookup.proofs.look_up.Tie as tie
-use Rattle.field_table.proofs.house_table.Reads as house-table-reads
-use Rattle.message_lookup.proofs.look_up_by.Reads as look-up-by-reads
+use Rattle.message_lookup.proofs.find.Reads as find-reads
+use Rattle.message_walk.proofs.walk.Reads as walk-reads
 
-house-table-requires : tie.Need-house-table-requires
-house-table-requires c κs = search needs
+walk-requires : tie.Need-walk-requires
+walk-requires c κs = search needs
 
-slice-aggregate-look-up-by : tie.Need-slice-aggregate-look-up-by
-slice-aggregate-look-up-by c = search needs
+enum-known-end : tie.Need-enum-known-end
+enum-known-end c = search needs
 
-look-up-by-requires : tie.Need-look-up-by-requires
-look-up-by-requires c κs = search needs
+enum-known-end-2 : tie.Need-enum-known-end-2
+enum-known-end-2 c = search needs
+
+find-requires : tie.Need-find-requires
+find-requires c κs = looked-head _ _ _ 0 _ (c .before .before .before .walk .ensures .0) _ _ (c .before .end2 .given .1)
 
 returns : tie.Need-returns
-returns c = (search (looked-by, needs), search (told-by, needs))
+returns c =
+    let r = looked-refused _ _ _ _ _ (c .before .before .before .walk .ensures .0) _ (c .before .end .given .1) in
+    (r, ap toldFound r)
+
+returns-2 : tie.Need-returns-2
+returns-2 c =
+    let k = c .before in
+    let r = looked-found _ _ _ _ _ (k .before .before .before .walk .ensures .0) _ _ _ (k .before .end2 .given .1) (c .find .ensures) in
+    (r, ap toldFound r)
 
 pub look-up-spec : {M : Type 1} → statement M
 look-up-spec =
     tie.close
-    (tie.spec house-table-requires slice-aggregate-look-up-by look-up-by-requires returns)
+    (tie.spec walk-requires enum-known-end enum-known-end-2 find-requires returns returns-2)

@@ -11,14 +11,11 @@ use Rattle.field_write.proofs.exact_fault.Reads as exact-fault-reads
 enum-told : tie.Need-enum-told
 enum-told c = search needs
 
-enum-told-2 : tie.Need-enum-told-2
-enum-told-2 c = search needs
-
 exact-fault-requires : tie.Need-exact-fault-requires
 exact-fault-requires c κs = search needs
 
-enum-told-3 : tie.Need-enum-told-3
-enum-told-3 c = search needs
+enum-told-2 : tie.Need-enum-told-2
+enum-told-2 c = search needs
 
 clean-fault-requires : tie.Need-clean-fault-requires
 clean-fault-requires c κs = search needs
@@ -31,19 +28,7 @@ returns-2 : tie.Need-returns-2
 unfolding asked
 returns-2 c = search (rule-is, needs)
 
-returns-3 : tie.Need-returns-3
-unfolding asked
-returns-3 c = search (rule-is, needs)
-
 pub content-fault-spec : {M : Type 1} → statement M
 content-fault-spec =
     tie.close
-    (tie.spec
-    enum-told
-    enum-told-2
-    exact-fault-requires
-    enum-told-3
-    clean-fault-requires
-    returns
-    returns-2
-    returns-3)
+    (tie.spec enum-told exact-fault-requires enum-told-2 clean-fault-requires returns returns-2)

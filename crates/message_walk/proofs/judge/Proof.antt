@@ -7,6 +7,7 @@ use borrow.Author.Needs.{needs}
 use Rattle.message_walk.proofs.judge.Statement.{statement}
 use Rattle.message_walk.proofs.judge.Tie as tie
 use Rattle.message_notes.proofs.read_note.Reads as read-note-reads
+use Rattle.message_walk.proofs.fault_of.Reads as fault-of-reads
 use Rattle.message_walk.proofs.judge_field.Reads as judge-field-reads
 
 read-note-requires : tie.Need-read-note-requires
@@ -21,6 +22,9 @@ enum-known-said c = search needs
 enum-known-number : tie.Need-enum-known-number
 enum-known-number c = search needs
 
+fault-of-requires : tie.Need-fault-of-requires
+fault-of-requires c κs = search needs
+
 judge-field-requires : tie.Need-judge-field-requires
 judge-field-requires c κs = search needs
 
@@ -32,8 +36,8 @@ returns-2 c = sym (judged-end _ _ _ _ _ _ (sym (c .before .before .before .read-
 
 returns-3 : tie.Need-returns-3
 returns-3 c =
-    let k = c .before in
-    judged-plain _ _ _ _ _ _ _ _ (sym (k .before .before .before .read-note .ensures) ∙ k .before .number .given .1) (c .judge-field .ensures)
+    let k = c .before .before in
+    judged-plain _ _ _ _ _ _ _ _ _ (sym (k .before .before .before .read-note .ensures) ∙ k .before .number .given .1) (c .before .fault-of .ensures) (c .judge-field .ensures)
 
 pub judge-spec : {M : Type 1} → statement M
 judge-spec =
@@ -43,6 +47,7 @@ judge-spec =
     enum-told
     enum-known-said
     enum-known-number
+    fault-of-requires
     judge-field-requires
     returns
     returns-2

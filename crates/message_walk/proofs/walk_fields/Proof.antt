@@ -4,12 +4,12 @@ use mathlib.Core.Path.{_∙_}
 use mathlib.Core.List.{List}
 use lib.ListN.{length, drop}
 use native.Mathlib.Omega.{arith}
-use Rattle.field_table.specs.Codes.{decoded}
+use Rattle.field_table.specs.House.{house}
 use Rattle.message_language.specs.Language.{Entry}
 use Rattle.message_notes.specs.Dialect.{plainForm, headSize, dialect}
 use Rattle.message_notes.specs.Notes.{countIn}
 use Rattle.message_walk.specs.Walk.{Fault, ending, entriesIn, fieldsOn}
-use Rattle.message_walk.specs.Faults.{faultBy}
+use Rattle.message_walk.specs.Faults.{any, within}
 use Rattle.message_walk.proofs.Ends.{counted, refused-none}
 use Rattle.message_walk.proofs.Loops.{Walking, walking-first, Turn, turn-refused, turn-end, turn-done, turn-room, turn-here, turn-next}
 use Rattle.message_walk.proofs.Naming.{Naming, naming-first, naming-next, naming-done, numbers-are, entries-good}
@@ -23,40 +23,40 @@ use Rattle.message_walk.proofs.judge.Reads as judge-reads
 use Rattle.message_walk.proofs.refused_at.Reads as refused-at-reads
 
 abbrev Inv-loop : tie.InvT-loop
-Inv-loop values notes rule table count fields₀ last₀ at₀ fields last at =
-    Walking plainForm (faultBy (decoded table) values rule) notes
-    (ending plainForm (faultBy (decoded table) values rule) (countIn notes) (length notes) 0 headSize (drop headSize notes))
-    (Naming (entriesIn (dialect (decoded table)) (faultBy (decoded table) values rule) notes) (fields .bits))
+Inv-loop values notes count fields₀ last₀ at₀ fields last at =
+    Walking plainForm (within values any) notes
+    (ending plainForm (within values any) (countIn notes) (length notes) 0 headSize (drop headSize notes))
+    (Naming (entriesIn (dialect house) (within values any) notes) (fields .bits))
     at last
 
 abbrev μ-loop : tie.MeasureT-loop
-μ-loop values notes rule table count fields₀ last₀ at₀ fields last at = length notes + 1 - at
+μ-loop values notes count fields₀ last₀ at₀ fields last at = length notes + 1 - at
 
 -- the turn of the loop in which a note was judged
 abbrev start : tie.At-loop Inv-loop μ-loop → tie.Start Inv-loop μ-loop
-start l = l .before .before .before .before .before .before
+start l = l .before .before .before .before .before
 
-abbrev here : tie.After-judge Inv-loop μ-loop → tie.At-loop Inv-loop μ-loop
+abbrev here : tie.After-judge-place Inv-loop μ-loop → tie.At-loop Inv-loop μ-loop
 here c = c .before .before .before
 
 abbrev fault : tie.At-loop Inv-loop μ-loop → Fault
-fault l = faultBy (decoded (start l .args .table .now)) (start l .args .values .now) (start l .args .rule)
+fault l = within (start l .args .values .now) any
 
 abbrev notes : tie.At-loop Inv-loop μ-loop → List ℕ
 notes l = start l .args .notes .now
 
 abbrev entries : tie.At-loop Inv-loop μ-loop → List Entry
-entries l = entriesIn (dialect (decoded (start l .args .table .now))) (fault l) (notes l)
+entries l = entriesIn (dialect house) (fault l) (notes l)
 
 turn-at :
-    (c : tie.After-judge Inv-loop μ-loop) →
+    (c : tie.After-judge-place Inv-loop μ-loop) →
     Turn plainForm (fault (here c)) (notes (here c))
     (ending plainForm (fault (here c)) (countIn (notes (here c))) (length (notes (here c))) 0 headSize (drop headSize (notes (here c))))
     (Naming (entries (here c)) (here c .loop .fields .bits))
     (here c .loop .at)
     (here c .loop .last)
-    (c .judge .result)
-turn-at c = record { loop = here c .loop .inv; judging = counted _ _ _ _ _ _ _ (c .judge .ensures) (here c .before .before .count-in .ensures) }
+    (c .judge-place .result)
+turn-at c = record { loop = here c .loop .inv; judging = counted _ _ _ _ _ _ _ (c .judge-place .ensures) (here c .before .before .count-in .ensures) }
 
 count-in-requires : tie.Need-count-in-requires Inv-loop μ-loop
 count-in-requires c κs = search needs
@@ -66,19 +66,19 @@ none-requires c κs = search needs
 
 loop-holds : tie.Need-loop-holds Inv-loop μ-loop
 unfolding entriesIn
-loop-holds c = walking-first (c .before .before .before .before .before .pre) (naming-first (c .none .ensures))
+loop-holds c = walking-first (c .before .before .before .before .pre) (naming-first (c .none .ensures))
 
-sub-judge : tie.Need-sub-judge Inv-loop μ-loop
-sub-judge c = search needs
+sub-judge-place : tie.Need-sub-judge-place Inv-loop μ-loop
+sub-judge-place c = search needs
 
-part-judge-start : tie.Need-part-judge-start Inv-loop μ-loop
-part-judge-start c = search needs
+part-judge-place-start : tie.Need-part-judge-place-start Inv-loop μ-loop
+part-judge-place-start c = search needs
 
-part-judge-end : tie.Need-part-judge-end Inv-loop μ-loop
-part-judge-end c = search needs
+part-judge-place-end : tie.Need-part-judge-place-end Inv-loop μ-loop
+part-judge-place-end c = search needs
 
-judge-requires : tie.Need-judge-requires Inv-loop μ-loop
-judge-requires c κs = search needs
+judge-place-requires : tie.Need-judge-place-requires Inv-loop μ-loop
+judge-place-requires c κs = search needs
 
 enum-known-number : tie.Need-enum-known-number Inv-loop μ-loop
 enum-known-number c = search needs
@@ -135,10 +135,10 @@ walk-fields-spec =
     count-in-requires
     none-requires
     loop-holds
-    sub-judge
-    part-judge-start
-    part-judge-end
-    judge-requires
+    sub-judge-place
+    part-judge-place-start
+    part-judge-place-end
+    judge-place-requires
     enum-known-number
     refused-at-requires
     returns
