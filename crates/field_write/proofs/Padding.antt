@@ -76,6 +76,9 @@ module _ (c : Class) (k x : ℕ) (s d e : List ℕ) (flag : Bool) (byte : x ≡ 
   padded-right h p = rw (← side, h, ← byte) p
 
 -- the ends of `put_field`
+pub padded-zero : (c : Class) (k : ℕ) (s d e : List ℕ) → k ≡ 0 → e ≡ placed s d → e ≡ placed (padded c k s) d
+padded-zero c k s d e z h = rw (z, padded-none c s) h
+
 pub into-fits : (t : Table) (f : ℕ) (s d : List ℕ) → length s ≤ t .most f → fieldInto t f s d ≡ placed (fieldBytes t f s) d
 unfolding fieldInto
 into-fits t f s d h = rw (le-leb (length s) (t .most f) h)

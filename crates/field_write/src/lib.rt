@@ -108,6 +108,10 @@ fn missing(number: usize, length: usize, table: &[u16]) -> usize
 fn put_padded(class: Class, pad: usize, content: &[u8], out: &mut [u8])
     ensures { λ _. ⌜ now (out .exit) ≡ placed (padded class pad (now (content .entry))) (now (out .entry)) ⌝ }
 {
+    if pad == 0 {
+        octets::put(content, out);
+        return;
+    }
     let b = pad_byte(class);
     if pads_left(class) {
         put_padding_first(pad, b, content, out);
