@@ -25,6 +25,8 @@
 //! the walk over the notes in [`Message::fields`] and the making of them by [`Notes`] are plain safe Rust.
 
 #![deny(missing_docs, unsafe_code)]
+// a cast can cut a number in silence
+#![deny(clippy::as_conversions)]
 
 mod ffi;
 mod message;
@@ -37,5 +39,5 @@ pub mod ebcdic;
 pub mod length;
 
 pub use message::{read, Field, Fields, Message};
-pub use notes::{look_up, write_clean, write_exact, Cleaned, FieldSet, Notes, NOTES_ROOM};
+pub use notes::{look_up, write_clean, write_exact, Cleaned, FieldSet, NotePart, Notes, TooLarge, NOTES_ROOM};
 pub use refusal::{number, Refusal, Within};

@@ -47,7 +47,7 @@ pub fn read(input: &[u8]) -> Result<Message<'_>, Refusal> {
     let within = if answer.number <= 2 { Within::Nothing } else { Within::Message };
     Refusal::unless_zero(answer.number, answer.field, answer.position, within)?;
     let fields = notes[HEAD_SIZE..].chunks_exact(FIELD_SIZE).take_while(|note| note[0] == 2).count();
-    Ok(Message { input, notes, fields, used: answer.used as usize, bitmaps: answer.bitmaps as usize })
+    Ok(Message { input, notes, fields, used: answer.used, bitmaps: answer.bitmaps })
 }
 
 impl<'a> Message<'a> {
@@ -155,7 +155,7 @@ impl<'a> Iterator for Fields<'_, 'a> {
             return None;
         };
         self.notes = rest;
-        let offset = u32::from_be_bytes([a, b, c, d]) as usize;
+        let offset = usize::from_be_bytes([0, 0, 0, 0, a, b, c, d]);
         let length = usize::from(u16::from_be_bytes([e, f]));
         Some(Field { number: usize::from(number), offset, content: &self.input[offset..offset + length] })
     }
