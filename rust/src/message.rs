@@ -5,6 +5,8 @@ use crate::{check, ffi, Refusal, Within};
 use std::fmt;
 
 /// A message that was read. It keeps the bytes that it was read from, unchanged, and notes of where each content is.
+///
+/// `{:?}` prints its MTI, its size and its fields, each as a [`Field`] is: card data is masked.
 #[derive(Clone)]
 pub struct Message<'a> {
     input: &'a [u8],
@@ -15,7 +17,18 @@ pub struct Message<'a> {
 }
 
 /// One field of a message.
-#[derive(Clone, Copy, Debug, PartialEq, Eq)]
+///
+/// `{:?}` prints its content as text, with what is no plain ASCII escaped; but of the fields that hold card data, a PIN or a MAC (2, 14, 34,
+/// 35, 36, 45, 52, 55, 64, 128) only the length, so that a log does not keep them. What a house puts into other fields is printed.
+///
+/// ```
+/// let message = obolchime::read(b"0200\x60\0\0\0\0\0\0\x00164111111111111111000000")?;
+/// let shown: Vec<String> = message.fields().map(|field| format!("{field:?}")).collect();
+/// assert_eq!(shown[0], "Field { number: 2, offset: 14, content: **** (16 bytes) }");
+/// assert_eq!(shown[1], "Field { number: 3, offset: 30, content: \"000000\" }");
+/// # Ok::<(), obolchime::Refusal>(())
+/// ```
+#[derive(Clone, Copy, PartialEq, Eq)]
 pub struct Field<'a> {
     /// The field's number, 2 to 192.
     pub number: usize,
@@ -134,13 +147,28 @@ impl fmt::Debug for Message<'_> {
             .field("mti", &self.mti())
             .field("bitmaps", &self.bitmaps)
             .field("used", &self.used)
-            .field("fields", &self.fields().collect::<Vec<_>>())
+            .field("fields", &self.fields())
             .finish()
     }
 }
 
-/// The fields of a message, in rising number.
-#[derive(Clone, Debug)]
+// The fields whose contents `{:?}` masks: PAN, its expiry, the extended PAN, the tracks, the PIN, chip data, the MACs.
+const MASKED: [usize; 10] = [2, 14, 34, 35, 36, 45, 52, 55, 64, 128];
+
+impl fmt::Debug for Field<'_> {
+    fn fmt(&self, f: &mut fmt::Formatter<'_>) -> fmt::Result {
+        let mut shown = f.debug_struct("Field");
+        shown.field("number", &self.number).field("offset", &self.offset);
+        if MASKED.contains(&self.number) {
+            shown.field("content", &format_args!("**** ({} bytes)", self.content.len())).finish()
+        } else {
+            shown.field("content", &format_args!("\"{}\"", self.content.escape_ascii())).finish()
+        }
+    }
+}
+
+/// The fields of a message, in rising number. `{:?}` prints those that are left, each as a [`Field`] is.
+#[derive(Clone)]
 pub struct Fields<'m, 'a> {
     input: &'a [u8],
     notes: &'m [u8],
@@ -167,3 +195,9 @@ impl<'a> Iterator for Fields<'_, 'a> {
 }
 
 impl ExactSizeIterator for Fields<'_, '_> {}
+
+impl fmt::Debug for Fields<'_, '_> {
+    fn fmt(&self, f: &mut fmt::Formatter<'_>) -> fmt::Result {
+        f.debug_list().entries(self.clone()).finish()
+    }
+}
