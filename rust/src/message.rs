@@ -126,7 +126,7 @@ impl<'a> Message<'a> {
         self.fields().try_for_each(|field| check::field(field.number, field.content))
     }
 
-    /// The message written anew from its notes: proved to be the bytes that were read.
+    /// The message written anew from its notes. That these are the bytes that were read is a theorem of the library.
     ///
     /// ```
     /// let message = obolchime::read(b"0800\x20\0\0\0\0\0\0\x00000000 and more")?;
