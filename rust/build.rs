@@ -6,7 +6,9 @@ use std::path::PathBuf;
 fn main() {
     println!("cargo:rerun-if-env-changed=OBOLCHIME_LIB_DIR");
     let of_target = |name: &str| env::var(name).expect("cargo sets it");
-    if of_target("CARGO_CFG_TARGET_ARCH") != "x86_64" || of_target("CARGO_CFG_TARGET_OS") != "linux" {
+    let is = |name: &str, value: &str| of_target(name) == value;
+    // x32 is x86-64 too, with pointers of 32 bits
+    if !(is("CARGO_CFG_TARGET_ARCH", "x86_64") && is("CARGO_CFG_TARGET_OS", "linux") && is("CARGO_CFG_TARGET_POINTER_WIDTH", "64")) {
         // said here, since the linker would take a page for it
         eprintln!("libdesk.a is for x86-64 Linux and not for {}: build with `--target x86_64-unknown-linux-gnu`", of_target("TARGET"));
         std::process::exit(1);

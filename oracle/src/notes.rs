@@ -4,6 +4,9 @@ use crate::case::Contents;
 /// What the reader asks for.
 pub const ROOM: usize = 1531;
 
+/// A number that was cut to a note's bytes would ask about another content than the one compared.
+const FITS: &str = "an input whose numbers fit in notes";
+
 /// Values and notes for the contents, with the least count of bitmaps that holds them and the given length in the end note.
 pub fn of(contents: &Contents, length: usize) -> (Vec<u8>, Vec<u8>) {
     let count = contents.fields.iter().map(|(f, _)| (f - 1) / 64 + 1).max().unwrap_or(1);
@@ -13,12 +16,12 @@ pub fn of(contents: &Contents, length: usize) -> (Vec<u8>, Vec<u8>) {
     notes.push(count);
     for (f, content) in &contents.fields {
         notes.extend([0x02, *f]);
-        notes.extend((values.len() as u32).to_be_bytes());
-        notes.extend((content.len() as u16).to_be_bytes());
+        notes.extend(u32::try_from(values.len()).expect(FITS).to_be_bytes());
+        notes.extend(u16::try_from(content.len()).expect(FITS).to_be_bytes());
         values.extend(content);
     }
     notes.push(0x04);
-    notes.extend((length as u32).to_be_bytes());
+    notes.extend(u32::try_from(length).expect(FITS).to_be_bytes());
     (values, notes)
 }
 

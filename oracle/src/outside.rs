@@ -1,11 +1,12 @@
 //! Where the two part: the entries of docs/DIFFERENCES.md that can be run, each with its input, and what either side answers. A run fails
 //! where an answer is not the one listed.
 use crate::case::{shown, Answer, Case, Contents, Encoding::*};
-use crate::table::Domain;
+use crate::table::{ranges, row, Class, Domain};
 use crate::{here, notes, there};
 use iso8583_core::bitmap::Bitmap;
 use iso8583_core::field::{Field, FieldDefinition, FieldValue};
 use iso8583_core::message::ISO8583Message;
+use iso8583_core::mti::{MessageClass, MessageFunction, MessageOrigin, MessageType};
 use iso8583_core::validation::Validator;
 
 /// Prints every entry, and answers how many are not as listed.
@@ -18,7 +19,9 @@ pub fn run(domain: &Domain) -> usize {
     fields(&mut list);
     reading(&mut list);
     cleaning(&mut list);
+    writing(&mut list);
     validation(&mut list);
+    binary_values(&mut list);
     println!("{} run outside the domain, {} not as listed", list.count, list.wrong);
     list.wrong
 }
@@ -183,7 +186,7 @@ fn fields(list: &mut List) {
         "good",
         "the entry of 64: Binary Fixed(8)",
     );
-    let others = crate::table::ranges(&Domain::disagreeing());
+    let others = ranges(&Domain::disagreeing());
     let shifted = "28-31, 56-64, 66-88, 90-104, 116-118, 120, 128";
     list.alone("Field 1", "fields not of 01's length kind, length and nature", "there", others, shifted);
     list.case(
@@ -289,13 +292,63 @@ fn cleaning(list: &mut List) {
     list.alone("Message 15", "field 3 `1`", "here", ours, "`0800 ` 00 00 00 00 00 00 00 `000001`, padded 3");
 }
 
+/// What the crate writes by the shifted table, by a version that is no digit, and of a value handed over as binary.
+fn writing(list: &mut List) {
+    let mut clean =
+        |entry: &str, f: u8, content: &[u8], ours: &str, theirs: &str| list.case(entry, Case::Clean(one(f, content)), ours, theirs);
+    clean("Message 16", 56, b"", "`0800` 00 00 00 00 00 00 01 00 `000`", "`0800` 00 00 00 00 00 00 01 00 `        `, padded 56");
+    clean("Message 16", 60, b"ABCDE", "`0800` 00 00 00 00 00 00 00 10 `005ABCDE`", "`0800` 00 00 00 00 00 00 00 10 `ABC`");
+    clean("Message 16", 64, b"ABCDEFGH", "`0800` 00 00 00 00 00 00 00 01 `ABCDEFGH`", "`0800` 00 00 00 00 00 00 00 01 `ABCD`");
+    let kept = (56..=64).map(|f| match there::answer(&Case::Clean(one(f, b"ABCDEFGHIJKL"))) {
+        Answer::Written(bytes, _) => format!("{f} {}", shown(&bytes[12..])),
+        other => format!("{f} {other}"),
+    });
+    let kept = kept.collect::<Vec<_>>().join(", ");
+    let listed = "56 `ABCDEFGH`, 57 `ABCDEFGH`, 58 `A`, 59 `AB`, 60 `ABC`, 61 `ABC`, 62 `ABC`, 63 `ABCD`, 64 `ABCD`";
+    list.alone("Message 16", "fields 56 to 64, each with `ABCDEFGHIJKL`", "there", kept, listed);
+
+    let ten = MessageType::new(10, MessageClass::NetworkManagement, MessageFunction::Request, MessageOrigin::Acquirer);
+    let five = ISO8583Message::new(ten).to_bytes();
+    let ours = said(here::write_exact(b"", b"\x01:800\x01\x04\0\0\0\x0C", &mut [0; 64]).verdict);
+    list.other(
+        "Message 17",
+        "MessageType::new(10, ..), no field; here the MTI `:800`",
+        ours,
+        shown(&five),
+        "refused 3 field 0 at 0",
+        "`10800` 00 00 00 00 00 00 00 00",
+    );
+    let again = there::answer(&Case::Read(five)).to_string();
+    list.alone("Message 17", "what was written, read again", "there", again, "Field 3 length mismatch: expected 6, got 1");
+
+    let mut message = there::message_of(&Contents { mti: *b"0800", fields: Vec::new() });
+    message.set_field(Field::from_number(3).unwrap(), FieldValue::from_binary(vec![0xFF; 6])).unwrap();
+    let written = message.to_bytes();
+    let ours = here::answer(&Case::Clean(one(3, &[0xFF; 6]))).to_string();
+    let theirs = shown(&written);
+    let listed = "`0800 ` 00 00 00 00 00 00 00 FF FF FF FF FF FF";
+    list.other("Message 18", "field 3 with six bytes FF, there as binary", ours, theirs, "refused 8 field 3 at 6", listed);
+    let again = there::answer(&Case::Read(written)).to_string();
+    let listed = "Encoding error: Invalid UTF-8 in field 3: invalid utf-8 sequence of 1 bytes from index 0";
+    list.alone("Message 18", "what was written, read again", "there", again, listed);
+}
+
 fn validation(list: &mut List) {
     list.case("Validation 1", Case::Date(b"+1+1".to_vec()), "refused 20 field 0 at 0", "good");
     list.case("Validation 1", Case::Time(b"+0+0+0".to_vec()), "refused 20 field 0 at 0", "good");
     list.case("Validation 2", Case::Date("1é1".into()), "refused 20 field 0 at 0", "panics");
     list.case("Validation 2", Case::Time("1é123".into()), "refused 20 field 0 at 0", "panics");
     list.case("Validation 3", Case::Class(39, b"!!".to_vec()), "refused 16 field 39 at 0", "good");
+    let not_n = |f: &u8| !matches!(row(*f).map(|r| r.class), None | Some(Class::N | Class::B));
+    let checked = |f: &u8| !there::answer(&Case::Class(*f, b"!".to_vec())).accepted();
+    let (checked, unchecked): (Vec<u8>, Vec<u8>) = (2..=128).filter(not_n).partition(checked);
+    let text = "fields that are an, ans, ns, z or x+n here";
+    let listed = "35, 37-48, 54-57, 93-95, 97-98, 101-127";
+    list.alone("Validation 3", &format!("{text}, with `!`: no class is checked"), "there", ranges(&unchecked), listed);
+    list.alone("Validation 3", &format!("{text}, with `!`: digits are asked for"), "there", ranges(&checked), "28-31, 34, 58-63, 91-92");
     list.case("Validation 4", Case::Class(34, b"=".to_vec()), "good", "Field must be numeric");
+    list.case("Validation 4", Case::Class(28, b"D".to_vec()), "good", "Field must be numeric");
+    list.case("Validation 4", Case::Class(58, b"A".to_vec()), "good", "Field must be numeric");
     list.case("Validation 4", Case::Class(49, b"EUR".to_vec()), "refused 16 field 49 at 0", "good");
     for f in [36, 50, 51, 83, 84, 85, 86, 87, 88, 90, 99, 100] {
         list.case("Validation 4", Case::Class(f, b"A".to_vec()), &format!("refused 16 field {f} at 0"), "good");
@@ -324,6 +377,24 @@ fn validation(list: &mut List) {
     );
     other("Validation 8", "field 1 nothing", check(1, b""), format(1, &nothing), "refused 10 field 1 at 0", "good");
     other("Validation 8", "field 65 nothing", check(65, b""), format(65, &nothing), "refused 10 field 65 at 0", "good");
+}
+
+/// What is handed over as binary: neither of the crate's two calls looks at it.
+fn binary_values(list: &mut List) {
+    let both = |f: u8, content: &[u8]| {
+        let (field, value) = (Field::from_number(f).unwrap(), FieldValue::from_binary(content.to_vec()));
+        Validator::validate_field_format(field, &value).and_then(|()| Validator::validate_field_value(field, &value))
+    };
+    let mut binary = |input: &str, f: u8, content: &[u8], ours: &str| {
+        let check = said(here::check_field(f as u64, content));
+        list.other("Validation 9", &format!("{input}, there as binary"), check, result(both(f, content)), ours, "good");
+    };
+    binary("field 3 `A`", 3, b"A", "refused 16 field 3 at 0");
+    binary("field 3 `1`", 3, b"1", "refused 12 field 3 at 0");
+    binary("field 2 `4111111111111112`", 2, b"4111111111111112", "refused 17 field 2 at 0");
+    binary("field 4 `000000000000`", 4, b"000000000000", "refused 18 field 4 at 0");
+    let refused = (1..=128).filter(|f| both(*f, &[0xFF; 1000]).is_err()).count();
+    list.alone("Validation 9", "fields 1 to 128, each with 1,000 bytes FF as binary", "there", format!("{refused} refused"), "0 refused");
 }
 
 fn exact(values: &[u8], notes: &[u8]) -> Vec<u8> {

@@ -28,9 +28,10 @@ pub fn field(number: usize, content: &[u8]) -> Result<(), Refusal> {
 /// ```
 /// use obolchime::{check, Notes};
 ///
-/// let notes = Notes::new(*b"0800", 1).field(3, 0, 6).field(12, 0, 6).end(24);
+/// let notes = Notes::new(*b"0800", 1)?.field(3, 0, 6)?.field(12, 0, 6)?.end(24)?;
 /// let refusal = check::required(b"000000", &notes).unwrap_err();
 /// assert_eq!(refusal.to_string(), "field 11: required field missing (19)");
+/// # Ok::<(), obolchime::TooLarge>(())
 /// ```
 pub fn required(values: &[u8], notes: &[u8]) -> Result<(), Refusal> {
     let answer = ffi::check_required(values, notes);

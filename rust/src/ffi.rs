@@ -4,31 +4,38 @@
 //! read, and written where it is `*mut`; that no length is over `isize::MAX`; and that what is written overlaps nothing else. A `&[u8]`
 //! and a `&mut [u8]` have all three by their types, and the library keeps no pointer after a call: so every call here is sound,
 //! whatever the bytes are. Each `unsafe` block below is one call with the pointers and lengths of slices that the function was lent.
+//!
+//! Where the header has a `uint64_t` that is a size, a place or a field's number, it is a `usize` here: on x86-64 Linux, the one target,
+//! these are the same, and so no number is cut on its way.
 #![allow(unsafe_code)]
+
+use std::mem::size_of;
+
+const _: () = assert!(size_of::<usize>() == size_of::<u64>(), "the header's uint64_t is read as a usize");
 
 #[repr(C)]
 pub struct Reading {
     pub number: u64,
-    pub field: u64,
-    pub position: u64,
-    pub used: u64,
-    pub bitmaps: u64,
+    pub field: usize,
+    pub position: usize,
+    pub used: usize,
+    pub bitmaps: usize,
 }
 
 #[repr(C)]
 pub struct Written {
     pub number: u64,
-    pub field: u64,
-    pub position: u64,
-    pub length: u64,
+    pub field: usize,
+    pub position: usize,
+    pub length: usize,
 }
 
 #[repr(C)]
 pub struct Cleaned {
     pub number: u64,
-    pub field: u64,
-    pub position: u64,
-    pub length: u64,
+    pub field: usize,
+    pub position: usize,
+    pub length: usize,
     pub padded1: u64,
     pub padded2: u64,
     pub padded3: u64,
@@ -37,25 +44,25 @@ pub struct Cleaned {
 #[repr(C)]
 pub struct Found {
     pub number: u64,
-    pub field: u64,
-    pub position: u64,
-    pub offset: u64,
-    pub length: u64,
+    pub field: usize,
+    pub position: usize,
+    pub offset: usize,
+    pub length: usize,
 }
 
 #[repr(C)]
 pub struct Measured {
     pub number: u64,
-    pub field: u64,
-    pub position: u64,
-    pub value: u64,
+    pub field: usize,
+    pub position: usize,
+    pub value: usize,
 }
 
 #[repr(C)]
 pub struct Checked {
     pub number: u64,
-    pub field: u64,
-    pub position: u64,
+    pub field: usize,
+    pub position: usize,
 }
 
 extern "C" {

@@ -59,5 +59,5 @@ pub fn encode_into(length: usize, digits: usize, encoding: Encoding, out: &mut [
 pub fn decode(source: &[u8], digits: usize, encoding: Encoding) -> Result<usize, Refusal> {
     let answer = ffi::length_decode(source, digits, encoding.number());
     Refusal::unless_zero(answer.number, answer.field, answer.position, Within::Nothing)?;
-    Ok(answer.value as usize)
+    Ok(answer.value)
 }

@@ -1,5 +1,5 @@
 //! ISO 8583:1987 messages: a safe binding of Obolchime, whose routines are written in Rattle and proved to answer exactly what their
-//! definitions say, on every input.
+//! definitions say, on every input. [What that covers](#what-is-proved) is said below.
 //!
 //! ```
 //! let bytes = b"0800\x20\0\0\0\0\0\0\x00000000 and what comes after it";
@@ -21,10 +21,17 @@
 //! A call that refuses says why in a [`Refusal`]: a number, a field and a position, and prints as plain words. It changes no buffer.
 //!
 //! The static library is built by `bridge/build`, or by `rt staticlib desk`, at the root of the repository; `OBOLCHIME_LIB_DIR` names
-//! another folder that holds it. What is proved is the library. This crate is thin Rust over it: the calls are in one small module, and
-//! the walk over the notes in [`Message::fields`] and the making of them by [`Notes`] are plain safe Rust.
+//! another folder that holds it.
+//!
+//! # What is proved
+//!
+//! The library's source, on its language's abstract machine. Not proved are the compiler's back end, which makes machine code of it, and
+//! this crate, which is thin Rust over it: the calls are in one small module, and the walk over the notes in [`Message::fields`] and the
+//! making of them by [`Notes`] are plain safe Rust.
 
 #![deny(missing_docs, unsafe_code)]
+// a cast can cut a number in silence
+#![deny(clippy::as_conversions)]
 
 mod ffi;
 mod message;
@@ -37,5 +44,5 @@ pub mod ebcdic;
 pub mod length;
 
 pub use message::{read, Field, Fields, Message};
-pub use notes::{look_up, write_clean, write_exact, Cleaned, FieldSet, Notes, NOTES_ROOM};
+pub use notes::{look_up, write_clean, write_exact, Cleaned, FieldSet, NotePart, Notes, TooLarge, NOTES_ROOM};
 pub use refusal::{number, Refusal, Within};

@@ -5,6 +5,8 @@ use crate::{check, ffi, Refusal, Within};
 use std::fmt;
 
 /// A message that was read. It keeps the bytes that it was read from, unchanged, and notes of where each content is.
+///
+/// `{:?}` prints its MTI, its size and its fields, each as a [`Field`] is: card data is masked.
 #[derive(Clone)]
 pub struct Message<'a> {
     input: &'a [u8],
@@ -15,7 +17,18 @@ pub struct Message<'a> {
 }
 
 /// One field of a message.
-#[derive(Clone, Copy, Debug, PartialEq, Eq)]
+///
+/// `{:?}` prints its content as text, with what is no plain ASCII escaped; but of the fields that hold card data, a PIN or a MAC (2, 14, 34,
+/// 35, 36, 45, 52, 55, 64, 128) only the length, so that a log does not keep them. What a house puts into other fields is printed.
+///
+/// ```
+/// let message = obolchime::read(b"0200\x60\0\0\0\0\0\0\x00164111111111111111000000")?;
+/// let shown: Vec<String> = message.fields().map(|field| format!("{field:?}")).collect();
+/// assert_eq!(shown[0], "Field { number: 2, offset: 14, content: **** (16 bytes) }");
+/// assert_eq!(shown[1], "Field { number: 3, offset: 30, content: \"000000\" }");
+/// # Ok::<(), obolchime::Refusal>(())
+/// ```
+#[derive(Clone, Copy, PartialEq, Eq)]
 pub struct Field<'a> {
     /// The field's number, 2 to 192.
     pub number: usize,
@@ -47,7 +60,7 @@ pub fn read(input: &[u8]) -> Result<Message<'_>, Refusal> {
     let within = if answer.number <= 2 { Within::Nothing } else { Within::Message };
     Refusal::unless_zero(answer.number, answer.field, answer.position, within)?;
     let fields = notes[HEAD_SIZE..].chunks_exact(FIELD_SIZE).take_while(|note| note[0] == 2).count();
-    Ok(Message { input, notes, fields, used: answer.used as usize, bitmaps: answer.bitmaps as usize })
+    Ok(Message { input, notes, fields, used: answer.used, bitmaps: answer.bitmaps })
 }
 
 impl<'a> Message<'a> {
@@ -113,7 +126,7 @@ impl<'a> Message<'a> {
         self.fields().try_for_each(|field| check::field(field.number, field.content))
     }
 
-    /// The message written anew from its notes: proved to be the bytes that were read.
+    /// The message written anew from its notes. That these are the bytes that were read is a theorem of the library.
     ///
     /// ```
     /// let message = obolchime::read(b"0800\x20\0\0\0\0\0\0\x00000000 and more")?;
@@ -134,13 +147,28 @@ impl fmt::Debug for Message<'_> {
             .field("mti", &self.mti())
             .field("bitmaps", &self.bitmaps)
             .field("used", &self.used)
-            .field("fields", &self.fields().collect::<Vec<_>>())
+            .field("fields", &self.fields())
             .finish()
     }
 }
 
-/// The fields of a message, in rising number.
-#[derive(Clone, Debug)]
+// The fields whose contents `{:?}` masks: PAN, its expiry, the extended PAN, the tracks, the PIN, chip data, the MACs.
+const MASKED: [usize; 10] = [2, 14, 34, 35, 36, 45, 52, 55, 64, 128];
+
+impl fmt::Debug for Field<'_> {
+    fn fmt(&self, f: &mut fmt::Formatter<'_>) -> fmt::Result {
+        let mut shown = f.debug_struct("Field");
+        shown.field("number", &self.number).field("offset", &self.offset);
+        if MASKED.contains(&self.number) {
+            shown.field("content", &format_args!("**** ({} bytes)", self.content.len())).finish()
+        } else {
+            shown.field("content", &format_args!("\"{}\"", self.content.escape_ascii())).finish()
+        }
+    }
+}
+
+/// The fields of a message, in rising number. `{:?}` prints those that are left, each as a [`Field`] is.
+#[derive(Clone)]
 pub struct Fields<'m, 'a> {
     input: &'a [u8],
     notes: &'m [u8],
@@ -155,7 +183,7 @@ impl<'a> Iterator for Fields<'_, 'a> {
             return None;
         };
         self.notes = rest;
-        let offset = u32::from_be_bytes([a, b, c, d]) as usize;
+        let offset = usize::from_be_bytes([0, 0, 0, 0, a, b, c, d]);
         let length = usize::from(u16::from_be_bytes([e, f]));
         Some(Field { number: usize::from(number), offset, content: &self.input[offset..offset + length] })
     }
@@ -167,3 +195,9 @@ impl<'a> Iterator for Fields<'_, 'a> {
 }
 
 impl ExactSizeIterator for Fields<'_, '_> {}
+
+impl fmt::Debug for Fields<'_, '_> {
+    fn fmt(&self, f: &mut fmt::Formatter<'_>) -> fmt::Result {
+        f.debug_list().entries(self.clone()).finish()
+    }
+}

@@ -13,45 +13,134 @@ pub(crate) const END_SIZE: usize = 5;
 
 /// Notes made by hand, for a message whose contents lie somewhere in a buffer of values.
 ///
-/// Nothing is judged here: the writers and [`look_up`] refuse what is wrong.
+/// A note has one byte for a field's number, four for its offset and two for its length. A number that these cannot hold is refused
+/// ([`TooLarge`]) and never cut to them. Nothing else is judged here: the writers and [`look_up`] refuse what is wrong.
 ///
 /// ```
 /// use obolchime::{write_clean, Notes};
 ///
 /// // Processing code 0, and a terminal "T1" that is six bytes too short.
 /// let values = b"0T1";
-/// let notes = Notes::new(*b"0200", 1).field(3, 0, 1).field(41, 1, 2).end(12 + 6 + 8);
+/// let notes = Notes::new(*b"0200", 1)?.field(3, 0, 1)?.field(41, 1, 2)?.end(12 + 6 + 8)?;
 /// let mut out = [0; 26];
 /// let cleaned = write_clean(values, &notes, &mut out)?;
 /// assert_eq!(&out[12..], b"000000T1      ");
 /// assert_eq!(cleaned.padded.iter().collect::<Vec<_>>(), [3, 41]);
-/// # Ok::<(), obolchime::Refusal>(())
+/// # Ok::<(), Box<dyn std::error::Error>>(())
 /// ```
-#[derive(Clone, Debug)]
+#[derive(Clone, Debug, PartialEq, Eq)]
 pub struct Notes(Vec<u8>);
 
 impl Notes {
     /// The head: the MTI and the count of bitmaps, 1 to 3.
-    pub fn new(mti: [u8; 4], bitmaps: u8) -> Notes {
+    pub fn new(mti: [u8; 4], bitmaps: usize) -> Result<Notes, TooLarge> {
+        let bitmaps: u8 = NotePart::Bitmaps.fitted(bitmaps)?;
         let mut notes = vec![1];
         notes.extend(mti);
         notes.push(bitmaps);
-        Notes(notes)
+        Ok(Notes(notes))
     }
 
-    /// A field: its number, and the place and length of its content in the values. Fields come in rising number.
-    pub fn field(mut self, number: u8, offset: u32, length: u16) -> Notes {
+    /// Notes a field: its number, and the place and length of its content in the values. Fields come in rising number. What does not fit
+    /// is refused, and the notes stay as they were.
+    ///
+    /// ```
+    /// use obolchime::Notes;
+    ///
+    /// let content = [b'1'; 65_542];
+    /// let mut notes = Notes::new(*b"0200", 1)?;
+    /// let refused = notes.field(48, 0, content.len()).unwrap_err();
+    /// assert_eq!(refused.to_string(), "content length 65542 is too large for a note: at most 65535");
+    /// # Ok::<(), obolchime::TooLarge>(())
+    /// ```
+    pub fn field(&mut self, number: usize, offset: usize, length: usize) -> Result<&mut Notes, TooLarge> {
+        let number: u8 = NotePart::Number.fitted(number)?;
+        let offset: u32 = NotePart::Offset.fitted(offset)?;
+        let length: u16 = NotePart::Length.fitted(length)?;
         self.0.extend([2, number]);
         self.0.extend(offset.to_be_bytes());
         self.0.extend(length.to_be_bytes());
-        self
+        Ok(self)
     }
 
-    /// The notes, ended by the length of the message that is to be written, padding included.
-    pub fn end(mut self, length: u32) -> Vec<u8> {
-        self.0.push(4);
-        self.0.extend(length.to_be_bytes());
-        self.0
+    /// The notes so far, ended by the length of the message that is to be written, padding included.
+    pub fn end(&self, length: usize) -> Result<Vec<u8>, TooLarge> {
+        let length: u32 = NotePart::MessageLength.fitted(length)?;
+        let mut notes = self.0.clone();
+        notes.push(4);
+        notes.extend(length.to_be_bytes());
+        Ok(notes)
+    }
+}
+
+/// A number that the bytes of a note cannot hold. It was not cut, and nothing was noted.
+///
+/// It is no [`Refusal`]: those are the library's answers, and this number did not reach it.
+#[derive(Clone, Copy, Debug, PartialEq, Eq, Hash)]
+pub struct TooLarge {
+    part: NotePart,
+    value: usize,
+}
+
+impl TooLarge {
+    /// What the number was to be.
+    pub fn part(&self) -> NotePart {
+        self.part
+    }
+
+    /// The number that did not fit.
+    pub fn value(&self) -> usize {
+        self.value
+    }
+}
+
+impl fmt::Display for TooLarge {
+    fn fmt(&self, f: &mut fmt::Formatter<'_>) -> fmt::Result {
+        write!(f, "{} {} is too large for a note: at most {}", self.part, self.value, self.part.most())
+    }
+}
+
+impl std::error::Error for TooLarge {}
+
+/// What a number in a note stands for.
+#[derive(Clone, Copy, Debug, PartialEq, Eq, Hash)]
+pub enum NotePart {
+    /// The count of bitmaps, in the head: one byte.
+    Bitmaps,
+    /// A field's number: one byte.
+    Number,
+    /// Where a field's content starts in the values: four bytes.
+    Offset,
+    /// The length of a field's content: two bytes.
+    Length,
+    /// The length of the message, in the end note: four bytes.
+    MessageLength,
+}
+
+impl NotePart {
+    /// The largest number that a note holds there.
+    pub fn most(self) -> usize {
+        match self {
+            NotePart::Bitmaps | NotePart::Number => 0xFF,
+            NotePart::Length => 0xFFFF,
+            NotePart::Offset | NotePart::MessageLength => 0xFFFF_FFFF,
+        }
+    }
+
+    fn fitted<T: TryFrom<usize>>(self, value: usize) -> Result<T, TooLarge> {
+        T::try_from(value).map_err(|_| TooLarge { part: self, value })
+    }
+}
+
+impl fmt::Display for NotePart {
+    fn fmt(&self, f: &mut fmt::Formatter<'_>) -> fmt::Result {
+        f.write_str(match self {
+            NotePart::Bitmaps => "bitmap count",
+            NotePart::Number => "field number",
+            NotePart::Offset => "content offset",
+            NotePart::Length => "content length",
+            NotePart::MessageLength => "message length",
+        })
     }
 }
 
@@ -81,7 +170,7 @@ pub fn write_clean(values: &[u8], notes: &[u8], out: &mut [u8]) -> Result<Cleane
     let answer = ffi::write_clean(values, notes, out);
     Refusal::unless_zero(answer.number, answer.field, answer.position, Within::Notes)?;
     let padded = FieldSet([answer.padded1, answer.padded2, answer.padded3]);
-    Ok(Cleaned { length: answer.length as usize, padded })
+    Ok(Cleaned { length: answer.length, padded })
 }
 
 /// Finds the content of a field, as a part of the values. The notes may come from anywhere: all of them are judged first.
@@ -92,18 +181,17 @@ pub fn write_clean(values: &[u8], notes: &[u8], out: &mut [u8]) -> Result<Cleane
 /// ```
 /// use obolchime::{look_up, Notes};
 ///
-/// let notes = Notes::new(*b"0800", 1).field(3, 2, 6).end(18);
+/// let notes = Notes::new(*b"0800", 1)?.field(3, 2, 6)?.end(18)?;
 /// assert_eq!(look_up(b"::000000::", &notes, 3)?, b"000000");
 ///
 /// let refusal = look_up(b"::000000::", &notes, 4).unwrap_err();
 /// assert_eq!(refusal.to_string(), "field 4: field absent (15) at byte 14 of the notes");
-/// # Ok::<(), obolchime::Refusal>(())
+/// # Ok::<(), Box<dyn std::error::Error>>(())
 /// ```
 pub fn look_up<'v>(values: &'v [u8], notes: &[u8], number: usize) -> Result<&'v [u8], Refusal> {
     let answer = ffi::look_up(values, notes, number);
     Refusal::unless_zero(answer.number, answer.field, answer.position, Within::Notes)?;
-    let offset = answer.offset as usize;
-    Ok(&values[offset..offset + answer.length as usize])
+    Ok(&values[answer.offset..answer.offset + answer.length])
 }
 
 /// What [`write_clean`] answers.

@@ -31,12 +31,12 @@ pub enum Within {
 
 impl Refusal {
     /// `Ok` where the number is 0, else the refusal.
-    pub(crate) fn unless_zero(number: u64, field: u64, position: u64, within: Within) -> Result<(), Refusal> {
+    pub(crate) fn unless_zero(number: u64, field: usize, position: usize, within: Within) -> Result<(), Refusal> {
         if number == 0 {
             return Ok(());
         }
-        // A number is at most 26, and a field or a position came from a `usize`: nothing is cut.
-        Err(Refusal { number: number as u8, field: field as usize, position: position as usize, within })
+        let number = u8::try_from(number).expect("the library's refusals are numbered 1 to 25");
+        Err(Refusal { number, field, position, within })
     }
 
     /// The refusal's number, one of the constants in [`number`](crate::number).
@@ -68,7 +68,7 @@ impl Refusal {
 /// The length that a writer or a conversion wrote, or its refusal.
 pub(crate) fn written(answer: ffi::Written, within: Within) -> Result<usize, Refusal> {
     Refusal::unless_zero(answer.number, answer.field, answer.position, within)?;
-    Ok(answer.length as usize)
+    Ok(answer.length)
 }
 
 impl fmt::Display for Refusal {

@@ -1,7 +1,7 @@
 //! What refusals say, and that they leave the buffers alone.
 
 use obolchime::length::{self, Encoding};
-use obolchime::{bcd, check, ebcdic, look_up, number, read, write_clean, write_exact, Notes, Refusal, Within};
+use obolchime::{bcd, check, ebcdic, look_up, number, read, write_clean, write_exact, NotePart, Notes, Refusal, TooLarge, Within};
 
 fn words(answer: Result<impl std::fmt::Debug, Refusal>) -> String {
     answer.expect_err("this is refused").to_string()
@@ -23,7 +23,7 @@ fn reading() {
 }
 
 #[test]
-fn writing() {
+fn writing() -> Result<(), TooLarge> {
     let head = || Notes::new(*b"0200", 1);
     let mut out = [0xA5; 64];
     let mut exact = |values: &[u8], notes: &[u8]| {
@@ -32,20 +32,71 @@ fn writing() {
         words(answer)
     };
     assert_eq!(exact(b"", b""), "note missing, cut or of the wrong kind, or count of bitmaps not 1-3 (9) at byte 0 of the notes");
-    assert_eq!(exact(b"", &Notes::new(*b"020x", 1).end(12)), "MTI has a non-digit (3) at byte 0 of the notes");
-    assert_eq!(exact(b"", &head().field(0, 0, 0).end(12)), "field 0: field number not allowed here (10) at byte 6 of the notes");
-    assert_eq!(exact(b"", &head().field(65, 0, 0).end(12)), "field 65: field number not allowed here (10) at byte 6 of the notes");
-    assert_eq!(exact(b"12345", &head().field(3, 0, 6).end(18)), "field 3: content outside the values (11) at byte 6 of the notes");
-    assert_eq!(exact(b"12345", &head().field(3, 0, 5).end(18)), "field 3: length not allowed (12) at byte 6 of the notes");
-    assert_eq!(exact(b"\x80", &head().field(2, 0, 1).end(15)), "field 2: text byte over 0x7F (8) at byte 6 of the notes");
-    assert_eq!(exact(b"1", &head().field(2, 0, 1).end(16)), "end note differs from the length to be written (13) at byte 14 of the notes");
-    let notes = head().field(2, 0, 1).end(15);
+    assert_eq!(exact(b"", &Notes::new(*b"020x", 1)?.end(12)?), "MTI has a non-digit (3) at byte 0 of the notes");
+    assert_eq!(exact(b"", &head()?.field(0, 0, 0)?.end(12)?), "field 0: field number not allowed here (10) at byte 6 of the notes");
+    assert_eq!(exact(b"", &head()?.field(65, 0, 0)?.end(12)?), "field 65: field number not allowed here (10) at byte 6 of the notes");
+    assert_eq!(exact(b"12345", &head()?.field(3, 0, 6)?.end(18)?), "field 3: content outside the values (11) at byte 6 of the notes");
+    assert_eq!(exact(b"12345", &head()?.field(3, 0, 5)?.end(18)?), "field 3: length not allowed (12) at byte 6 of the notes");
+    assert_eq!(exact(b"\x80", &head()?.field(2, 0, 1)?.end(15)?), "field 2: text byte over 0x7F (8) at byte 6 of the notes");
+    assert_eq!(
+        exact(b"1", &head()?.field(2, 0, 1)?.end(16)?),
+        "end note differs from the length to be written (13) at byte 14 of the notes"
+    );
+    let notes = head()?.field(2, 0, 1)?.end(15)?;
     assert_eq!(words(write_exact(b"1", &notes, &mut [0; 14])), "output too short (14) at byte 14 of the notes");
     assert_eq!(words(write_clean(b"1", &notes, &mut [0; 14])), "output too short (14) at byte 14 of the notes");
-    let long = head().field(3, 0, 7).end(19);
+    let long = head()?.field(3, 0, 7)?.end(19)?;
     assert_eq!(words(write_clean(b"1234567", &long, &mut [0; 19])), "field 3: length not allowed (12) at byte 6 of the notes");
     assert_eq!(words(look_up(b"1", &notes, 3)), "field 3: field absent (15) at byte 14 of the notes");
     assert_eq!(words(look_up(b"1", &notes, usize::MAX)), format!("field {}: field absent (15) at byte 14 of the notes", usize::MAX));
+    Ok(())
+}
+
+#[test]
+fn what_a_note_cannot_hold() {
+    let words = |answer: Result<&mut Notes, TooLarge>| answer.expect_err("this is too large").to_string();
+    let mut notes = Notes::new(*b"0200", 1).unwrap();
+    notes.field(3, 0, 6).unwrap();
+    let before = notes.clone();
+
+    // cut to two bytes it would be 6, which field 3 takes
+    let values = [b'0'; 65_542];
+    let refused = notes.field(3, 0, values.len()).unwrap_err();
+    assert_eq!((refused.part(), refused.value()), (NotePart::Length, 65_542));
+    assert_eq!(refused.to_string(), "content length 65542 is too large for a note: at most 65535");
+    assert_eq!(notes, before);
+
+    assert_eq!(words(notes.field(4, 0, 65_536)), "content length 65536 is too large for a note: at most 65535");
+    assert_eq!(words(notes.field(260, 0, 12)), "field number 260 is too large for a note: at most 255");
+    assert_eq!(words(notes.field(4, 1 << 32, 12)), "content offset 4294967296 is too large for a note: at most 4294967295");
+    assert_eq!(
+        words(notes.field(usize::MAX, usize::MAX, usize::MAX)),
+        format!("field number {} is too large for a note: at most 255", usize::MAX)
+    );
+    assert_eq!(notes, before);
+    let refused = notes.end((1 << 32) + 18).unwrap_err();
+    assert_eq!(refused.to_string(), "message length 4294967314 is too large for a note: at most 4294967295");
+    let refused = Notes::new(*b"0200", 257).unwrap_err();
+    assert_eq!(refused.to_string(), "bitmap count 257 is too large for a note: at most 255");
+
+    // what is held is held to the byte, and what comes of it is the writers' to judge
+    let largest = notes.field(255, (1 << 32) - 1, 65_535).unwrap().end((1 << 32) - 1).unwrap();
+    assert_eq!(largest[14..], [2, 255, 255, 255, 255, 255, 255, 255, 4, 255, 255, 255, 255]);
+    assert_eq!(
+        write_exact(&values, &largest, &mut [0; 64]).unwrap_err().to_string(),
+        "field 255: field number not allowed here (10) at byte 14 of the notes"
+    );
+    for part in [NotePart::Bitmaps, NotePart::Number, NotePart::Offset, NotePart::Length, NotePart::MessageLength] {
+        let noted = |value: usize| match part {
+            NotePart::Bitmaps => Notes::new(*b"0200", value).map(drop),
+            NotePart::Number => before.clone().field(value, 0, 0).map(drop),
+            NotePart::Offset => before.clone().field(4, value, 0).map(drop),
+            NotePart::Length => before.clone().field(4, 0, value).map(drop),
+            NotePart::MessageLength => before.end(value).map(drop),
+        };
+        assert!(noted(part.most()).is_ok());
+        assert_eq!(noted(part.most() + 1).map_err(|refused| (refused.part(), refused.value())), Err((part, part.most() + 1)));
+    }
 }
 
 #[test]
@@ -66,11 +117,12 @@ fn checking() {
     // the fields that a request needs, taken away one after the other; a response needs 39 as well
     let whole = [(2, 16), (3, 6), (4, 12), (11, 6), (12, 6), (13, 4)];
     let missing = |mti: &[u8; 4], without: usize| {
-        let mut notes = Notes::new(*mti, 1);
+        let mut notes = Notes::new(*mti, 1).unwrap();
         for &(number, size) in whole.iter().filter(|field| field.0 != without) {
-            notes = notes.field(number as u8, 0, size);
+            notes.field(number, 0, size).unwrap();
         }
-        check::required(b"4111111111111111", &notes.end(0)).map_err(|refusal| (refusal.number(), refusal.field(), refusal.position()))
+        check::required(b"4111111111111111", &notes.end(0).unwrap())
+            .map_err(|refusal| (refusal.number(), refusal.field(), refusal.position()))
     };
     assert_eq!(missing(b"0200", 0), Ok(()));
     for (number, _) in whole {

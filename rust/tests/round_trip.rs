@@ -101,15 +101,11 @@ fn a_changed_byte_is_read_or_refused() {
 
 #[test]
 fn padding_is_named() {
-    let notes = Notes::new(*b"0200", 3)
-        .field(3, 0, 2)
-        .field(28, 0, 1)
-        .field(41, 2, 2)
-        .field(52, 0, 4)
-        .field(64, 0, 8)
-        .field(70, 0, 0)
-        .field(192, 4, 1)
-        .end(28 + 6 + 9 + 8 + 8 + 8 + 3 + 8);
+    let mut notes = Notes::new(*b"0200", 3).unwrap();
+    for (number, offset, length) in [(3, 0, 2), (28, 0, 1), (41, 2, 2), (52, 0, 4), (64, 0, 8), (70, 0, 0), (192, 4, 1)] {
+        notes.field(number, offset, length).unwrap();
+    }
+    let notes = notes.end(28 + 6 + 9 + 8 + 8 + 8 + 3 + 8).unwrap();
     let values = b"C1T1\xFF678";
     let mut out = vec![0; 78];
     let cleaned = write_clean(values, &notes, &mut out).unwrap();

@@ -1,7 +1,7 @@
 -- A number as it is written for people: in decimal digits, with no leading zero.
 --
 --   digitsWithin k n  == how many decimal digits n has, at least one: no more than k are counted behind the first
---   digitCount n      == how many decimal digits n has, at least one; it never has n of them behind the first
+--   digitCount n      == how many decimal digits n has, at least one; it never has more than n of them behind the first
 --   numeral n         == n in so many ASCII digits
 --
 -- That numerals spell their number and have no leading zero is proved in proofs/Numerals.antt.
