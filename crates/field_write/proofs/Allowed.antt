@@ -1,6 +1,6 @@
 -- What it says of a content that a writer does not refuse it, and where the two writers differ. Over any table. Assumes nothing.
 use Prim.Native.Nat.{ℕ, _≤_}
-use mathlib.Core.Path.{_≡_}
+use mathlib.Core.Path.{_≡_, refl, _∙_}
 use mathlib.Core.Bool.{true, false}
 use mathlib.Core.List.{List}
 use native.Mathlib.Omega.{arith}
@@ -14,6 +14,7 @@ use Rattle.refusal.specs.Numbers.{lengthNotAllowed, textNotAscii}
 use Rattle.field_table.specs.Table.{Table, isBinary}
 use Rattle.field_table.specs.declared.Class.{Class}
 use Rattle.field_write.specs.Fields.{isAllowedLength, textFault, exactFault, cleanFault, isShort}
+use Rattle.field_write.proofs.Faults.{exact-long}
 
 -- a content that the cleaning writer takes
 pub record Clean (t : Table) (f : ℕ) (s : List ℕ) : Type 0 where
@@ -77,11 +78,13 @@ module _ (t : Table) (f : ℕ) (s : List ℕ) where
   pub exact-passed : exactFault t f s ≡ 0 → Exact t f s
   unfolding exactFault
   exact-passed e =
-      let p = passed (isAllowedLength t f (length s)) (textFault (t .class f) s) lengthNotAllowed (omega arith) e in
+      by-bool (isAllowedLength t f (length s))
+      (λ y.
       record {
-        fixed = allowed-fixed-length t f (length s) (p .0);
-        clean = record { most = allowed-most t f (length s) (p .0); text = text-passed (t .class f) s (p .1) };
-      }
+        fixed = allowed-fixed-length t f (length s) y;
+        clean = record { most = allowed-most t f (length s) y; text = text-passed (t .class f) s (rw y at e) };
+      })
+      (λ y. absurd (omega (arith, exact-long t f s _ refl (rw y) ∙ e)))
 
   pub exact-passes : Exact t f s → exactFault t f s ≡ 0
   unfolding exactFault

@@ -16,7 +16,7 @@ use Rattle.field_read.proofs.Found.{Found, found, reads, read-placed}
 use Rattle.message_language.specs.Language.{Item, Entry, entry, Fields, none, more}
 use Rattle.message_reader.specs.declared.FieldsRead.{FieldsRead}
 use Rattle.message_reader.specs.declared.FieldsRead.the-variants.{Used, Refused}
-use Rattle.message_reader.specs.Reader.{readFields, entriesOf}
+use Rattle.message_reader.specs.Reader.{readFields, entryFound, entriesOf}
 
 -- one field more
 module _ (t : Table) (at f : ℕ) (fs s : List ℕ) where
@@ -33,7 +33,7 @@ module _ (t : Table) (at f : ℕ) (fs s : List ℕ) where
     unfolding readFields
     fields-read = rw (readFields, e)
 
-    pub entries-read : entriesOf t at (f ∷ fs) s ≡ entry f (at + a) n ∷ entriesOf t (at + (a + n)) fs (drop (a + n) s)
+    pub entries-read : entriesOf t at (f ∷ fs) s ≡ entryFound f at a n ∷ entriesOf t (at + (a + n)) fs (drop (a + n) s)
     unfolding entriesOf
     entries-read = rw (entriesOf, e)
 

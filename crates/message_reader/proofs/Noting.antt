@@ -17,12 +17,11 @@ use Rattle.field_read.specs.declared.FieldRead.the-variants.{Content, Refused a
 use Rattle.bitmap.specs.Bitmaps.{fieldsOf}
 use Rattle.bitmap.proofs.Fields.{fields-few, fields-in}
 use Rattle.bitmap_read.specs.Found.{mapsOf}
-use Rattle.message_language.specs.Language.{entry}
 use Rattle.message_notes.specs.Dialect.{Form, noteSize, Dialect}
 use Rattle.message_notes.specs.Notes.{fieldNote, fieldNotes}
 use Rattle.message_notes.proofs.Sizes.{field-long, fields-long}
 use Rattle.message_reader.specs.declared.FieldsRead.the-variants.{Used}
-use Rattle.message_reader.specs.Reader.{readFields, entriesOf, readBody, readingWith}
+use Rattle.message_reader.specs.Reader.{readFields, entryFound, entriesOf, readBody, readingWith}
 use Rattle.message_reader.proofs.Turns.{Met, met}
 use Rattle.message_reader.proofs.Fields.{fields-read, first-placed, entries-refused, entries-read, entries-most, read-within}
 
@@ -74,16 +73,16 @@ module _ {F : Form} {t : Table} {s fs : List ℕ} {start : ℕ} {d o : List ℕ}
       pub noted-within : at + (a + n) ≤ length s
       noted-within = omega (arith, read-within t f (drop at s) a n (sym (k .gives) ∙ is), length-drop at s, c .inside)
 
-      next : coming F t s at (drop i fs) ≡ fieldNote F (entry f (at + a) n) ++ coming F t s (at + (a + n)) (drop (i + 1) fs)
+      next : coming F t s at (drop i fs) ≡ fieldNote F (entryFound f at a n) ++ coming F t s (at + (a + n)) (drop (i + 1) fs)
       unfolding fieldNotes
       next = rw (k .here, entries-read t at f (drop (i + 1) fs) (drop at s) a n (sym (k .gives) ∙ is), drop-drop (a + n) at s)
 
-      pub noted-read : {p : List ℕ} → p ≡ placed (fieldNote F (entry f (at + a) n)) (midOf w (length o - w) o)
+      pub noted-read : {p : List ℕ} → p ≡ placed (fieldNote F (entryFound f at a n)) (midOf w (length o - w) o)
           → Noted F t s fs start d (putMid w (length o - w) o p) (at + (a + n)) (w + noteSize F) (i + 1)
       noted-read {p} h =
           record {
             inside = noted-within;
-            written = written-more (coming F t s start fs) d o (coming F t s at (drop i fs)) (fieldNote F (entry f (at + a) n)) (coming F t s (at + (a + n)) (drop (i + 1) fs)) p w (noteSize F) (c .written) next (field-long F (entry f (at + a) n)) noted-room h;
+            written = written-more (coming F t s start fs) d o (coming F t s at (drop i fs)) (fieldNote F (entryFound f at a n)) (coming F t s (at + (a + n)) (drop (i + 1) fs)) p w (noteSize F) (c .written) next (field-long F (entryFound f at a n)) noted-room h;
             room = omega (arith, c .room, left);
             used = c .used;
             accepted =

@@ -2,7 +2,7 @@
 -- number i of the list. Assumes nothing.
 use Prim.Native.Nat.{ℕ, _+_, _-_, _≤_, _<_}
 use mathlib.Core.Path.{_≡_, refl, sym, ap, _∙_}
-use mathlib.Core.List.{List, _∷_}
+use mathlib.Core.List.{List, [], _∷_}
 use native.Mathlib.Omega.{arith}
 use lib.ListN.{length, take, drop, getD, length-drop, drop-of-length-le}
 use lib.Seq.{drop-cons, drop-drop}
@@ -13,7 +13,7 @@ use Rattle.field_table.specs.Table.{Table}
 use Rattle.field_read.specs.Items.{readField}
 use Rattle.field_read.specs.declared.FieldRead.{FieldRead}
 use Rattle.field_read.specs.declared.FieldRead.the-variants.{Content, Refused as FieldRefused}
-use Rattle.message_reader.specs.declared.FieldsRead.the-variants.{Used, Refused}
+use Rattle.message_reader.specs.declared.FieldsRead.the-variants.{Refused}
 use Rattle.message_reader.specs.Reader.{readFields}
 use Rattle.message_reader.proofs.Fields.{fields-refused, fields-read, read-within}
 
@@ -36,8 +36,7 @@ pub scan-first : {t : Table} {s fs : List ℕ} {start : ℕ} → start ≤ lengt
 scan-first h = record { inside = h; whole = refl }
 
 module _ {t : Table} {s fs : List ℕ} {start at i : ℕ} (c : Scanned t s fs start at i) where
-  pub scan-end : length fs ≤ i → Used at ≡ readFields t start fs (drop start s)
-  unfolding readFields
+  pub scan-end : length fs ≤ i → readFields t at [] (drop at s) ≡ readFields t start fs (drop start s)
   scan-end h = sym (c .whole ∙ rw (drop-of-length-le fs h))
 
   module _ {f : ℕ} {o : FieldRead} (k : Met t s fs at i f o) where

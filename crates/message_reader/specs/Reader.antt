@@ -3,6 +3,7 @@
 --   toldRead r            == what the reader's answer tells; its values are the bytes used and the count of bitmaps
 --   headRead m s          == how many bitmaps an input has, at most m, or the refusal of its MTI or its bitmaps
 --   readFields t at fs s  == reading the fields fs one after the other, the first at the place `at`, where s begins: the place after the last
+--   entryFound f at a n   == the entry of field f, read at the place `at`, whose content is n bytes that start a bytes behind that place
 --   entriesOf t at fs s   == the entries of those that are read before a refusal
 --   readBody t s k        == reading all fields of an input with k bitmaps
 --   readMessage t m s     == reading an input with at most m bitmaps, given enough room for its notes
@@ -57,12 +58,15 @@ readFields t at (f ∷ fs) s =
       | Content a n ↦ readFields t (at + (a + n)) fs (drop (a + n) s)
     ]
 
+abbrev pub entryFound : ℕ → ℕ → ℕ → ℕ → Entry
+entryFound f at a n = entry f (at + a) n
+
 unfoldable pub entriesOf : Table → ℕ → List ℕ → List ℕ → List Entry
 entriesOf t at [] s = []
 entriesOf t at (f ∷ fs) s =
     elim (readField t f s) [
       | FieldRefused n ↦ []
-      | Content a n ↦ entry f (at + a) n ∷ entriesOf t (at + (a + n)) fs (drop (a + n) s)
+      | Content a n ↦ entryFound f at a n ∷ entriesOf t (at + (a + n)) fs (drop (a + n) s)
     ]
 
 unfoldable pub readBody : Table → List ℕ → ℕ → FieldsRead

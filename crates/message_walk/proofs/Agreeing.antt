@@ -14,19 +14,15 @@ use Rattle.message_notes.specs.Notes.{countIn, isMarked, noteAt}
 use Rattle.message_notes.specs.declared.Note.the-variants.{Field as FieldNote}
 use Rattle.message_walk.specs.declared.Judged.the-variants.{Passed, End, Refused}
 use Rattle.message_walk.specs.Walk.{Fault, headNumber, judgedField, judged, passed, ending, walked, entriesIn}
-use Rattle.message_walk.proofs.Steps.{by-note, passes, judged-malformed, judged-end, judged-note, ending-bad, ending-end, ending-more, passed-bad, passed-end, passed-more}
+use Rattle.message_walk.proofs.Steps.{by-note, passes, unnumbered, judged-malformed, judged-end, judged-note, ending-bad, ending-end, ending-more, passed-bad, passed-end, passed-more}
 
 -- p and q find the same in the entries es
 unfoldable pub Agree : Fault → Fault → List Entry → Type 0
 Agree p q [] = Unit {0}
 Agree p q (e ∷ es) = (q e ≡ p e) × Agree p q es
 
--- a note's judgement, by its three tests
+-- a note's judgement, where its number is allowed
 module _ (b : Bool) (p : Fault) (m last f a n : ℕ) where
-  unnumbered : numberAllowed m last f ≡ false → judgedField b p m last f a n ≡ Refused numberNotAllowed f
-  unfolding judgedField
-  unnumbered al = rw al
-
   unmarked : numberAllowed m last f ≡ true → b ≡ false → judgedField b p m last f a n ≡ Refused noteMalformed 0
   unfolding judgedField
   unmarked al y = rw (al, y)

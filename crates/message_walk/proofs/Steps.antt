@@ -1,7 +1,7 @@
 -- A walk, a note at a time: over any rule, values and count of bitmaps. Assumes nothing.
 use Prim.Native.Nat.{ℕ, suc, _+_, _-_, _≤_}
 use mathlib.Core.Path.{_≡_, refl, sym, ap, _∙_}
-use mathlib.Core.Bool.{Bool, true}
+use mathlib.Core.Bool.{Bool, true, false}
 use mathlib.Core.List.{List, [], _∷_}
 use native.Mathlib.Omega.{arith}
 use lib.ListN.{length, take, drop, getD}
@@ -71,6 +71,11 @@ module _ (b : Bool) (p : Fault) (m last f a n : ℕ) where
   unfolding judgedField
   passes y g = rw (g .allowed, y, eq-eqb (p (entry f a n)) 0 (g .ruled))
 
+  -- a number that is not allowed is refused before anything else is asked
+  pub unnumbered : numberAllowed m last f ≡ false → judgedField b p m last f a n ≡ Refused numberNotAllowed f
+  unfolding judgedField
+  unnumbered al = rw al
+
   -- by what it finds: a number that is not allowed, a mark that is not the field's, a fault, or nothing
   pub by-field : {P : Type 0} → ((x g : ℕ) → judgedField b p m last f a n ≡ Refused x g → P) → (b ≡ true → Good p m last f a n → P) → P
   unfolding judgedField
@@ -81,7 +86,7 @@ module _ (b : Bool) (p : Fault) (m last f a n : ℕ) where
       (λ z. y k (record { allowed = al; ruled = z }))
       (λ z. x (p (entry f a n)) f (rw (al, k, ne-eqb (p (entry f a n)) 0 z))))
       (λ k. x noteMalformed 0 (rw (al, k))))
-      (λ al. x numberNotAllowed f (rw al))
+      (λ al. x numberNotAllowed f (unnumbered al))
 
 -- A note that passes is a field's, whole, with the mark of its field.
 pub record Passing (F : Form) (p : Fault) (m last : ℕ) (s : List ℕ) (f a n : ℕ) : Type 0 where

@@ -2,6 +2,7 @@
 use Prim.Native.Nat.{_-_}
 use lib.ListN.{length}
 use Rattle.field_table.specs.Codes.{decoded}
+use Rattle.message_reader.specs.Reader.{readFields}
 use Rattle.message_reader.proofs.Turns.{Met, met, Scanned, scan-first, scan-refused, scan-within, scan-read, scan-end}
 use borrow.Author.Needs.{needs}
 use native.Mathlib.Omega.{arith}
@@ -78,6 +79,7 @@ loop-again c =
     scan-read (here k .loop .inv) (met-at k) (c .before .start .given .1)
 
 returns-2 : tie.Need-returns-2 Inv-loop μ-loop
+unfolding readFields
 returns-2 c = scan-end (c .before .loop .inv) (c .loop-test .left)
 
 pub read-fields-spec : {M : Type 1} → statement M

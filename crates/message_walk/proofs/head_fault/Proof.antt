@@ -1,5 +1,6 @@
 -- One law for each end, in Ends.
-use Prim.Native.Nat.{_-_}
+use Prim.Native.Nat.{_-_, _<_}
+use native.Mathlib.Omega.{arith}
 use Rattle.message_walk.proofs.Ends.{head-not, head-none, head-many, head-mti, head-good}
 use borrow.Author.Needs.{needs}
 use Rattle.message_walk.proofs.head_fault.Statement.{statement}
@@ -22,7 +23,7 @@ returns-2 : tie.Need-returns-2
 returns-2 c = search (head-none, needs)
 
 returns-3 : tie.Need-returns-3
-returns-3 c = search (head-many, needs)
+returns-3 c = let many : 3 < c .before .before .count-in .result = omega arith in search (head-many, needs)
 
 mti-in-requires : tie.Need-mti-in-requires
 mti-in-requires c κs = search needs
