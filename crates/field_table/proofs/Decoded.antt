@@ -1,5 +1,5 @@
 -- Codes stand for the table that rows make, at every number: one computed test for each table. Assumes nothing.
-use Prim.Native.Nat.{ℕ, _/_, _%_, _≤_, _<_}
+use Prim.Native.Nat.{ℕ, _/_, _%_, _≤_}
 use mathlib.Core.Path.{_≡_, refl, sym, ap, _∙_}
 use mathlib.Core.Bool.{Bool}
 use mathlib.Core.List.{List}
@@ -11,7 +11,6 @@ use Rattle.octets.proofs.Tables.{every, entry}
 use Rattle.field_table.specs.Table.{Row, none, find, tableOf}
 use Rattle.field_table.specs.Codes.{classByCode, codeIn, decoded, houseCodes}
 use Rattle.field_table.specs.House.{houseRows, house}
-use Rattle.field_table.specs.declared.Class.{Class}
 use Rattle.field_table.proofs.Codes.{codeOf, same-class}
 use Rattle.field_table.proofs.Rows.{Bounded, allRows, endsBy, found-none}
 

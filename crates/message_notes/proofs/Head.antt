@@ -1,11 +1,11 @@
 -- The ends of the routines that look into the head, with the facts as the code has them. Assumes nothing.
-use Prim.Native.Nat.{ℕ, _+_, _≤_, _<_}
+use Prim.Native.Nat.{ℕ, _≤_, _<_}
 use mathlib.Core.Path.{_≡_, sym}
 use mathlib.Core.Bool.{false, cond}
 use mathlib.Core.List.{List, []}
 use native.Mathlib.Omega.{arith}
 use lib.Dec.{eqb, leb}
-use lib.ListN.{length, take, drop, getD, List·getD-eq-default}
+use lib.ListN.{length, getD, List·getD-eq-default}
 use borrow.Author.Tests.{le-leb, lt-leb}
 use Rattle.message_notes.specs.Dialect.{headKind, headSize}
 use Rattle.message_notes.specs.Notes.{isHead, mtiIn, mtiPlace, countIn}

@@ -4,7 +4,7 @@ use native.Mathlib.Omega.{arith}
 use Rattle.field_table.specs.Table.{Table, Small}
 use Rattle.field_table.specs.House.{house}
 use Rattle.field_table.proofs.Rows.{house-small}
-use Rattle.message_notes.specs.Dialect.{Form, plainForm, endKind, dialect, Sound}
+use Rattle.message_notes.specs.Dialect.{plainForm, endKind, dialect, Sound}
 
 pub plain-apart : plainForm .kind ≡ endKind → ⊥
 plain-apart z = omega arith

@@ -8,7 +8,7 @@ use native.Mathlib.Nat.{add-sub-cancel-left}
 use lib.Dec.{leb, ltb}
 use lib.ListN.{length, take, drop}
 use borrow.Author.Tests.{eq-eqb, ne-eqb, le-leb, lt-leb, lt-ltb, le-ltb, leb-true, not-true, not-false}
-use Rattle.octets.specs.Lists.{both, between, all}
+use Rattle.octets.specs.Lists.{all}
 use Rattle.octets.specs.Numbers.{number, isDigit}
 use Rattle.octets.proofs.Cases.{by-le, tested-true, both-left}
 use Rattle.octets.proofs.Lists.{below-low, above-high, is-between}
@@ -19,7 +19,7 @@ use Rattle.field_table.specs.Table.{Table}
 use Rattle.bitmap.specs.Bitmaps.{isField, noFields}
 use Rattle.bitmap.proofs.Maps.{field-low}
 use Rattle.message_language.specs.Language.{Entry, entry}
-use Rattle.message_contents.specs.Contents.{contentOf, numberAllowed}
+use Rattle.message_contents.specs.Contents.{numberAllowed}
 use Rattle.message_notes.specs.Dialect.{Form, plainForm, headSize, Dialect}
 use Rattle.message_notes.specs.Notes.{isHead, mtiIn, countIn, isMarked, noteAt}
 use Rattle.message_notes.specs.declared.Note.the-variants.{Field as FieldNote}

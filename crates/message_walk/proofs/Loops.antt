@@ -8,7 +8,7 @@ use lib.Seq.{drop-drop}
 use Rattle.octets.proofs.Parts.{to-end}
 use Rattle.refusal.specs.Refusals.{refusal}
 use Rattle.message_language.specs.Language.{Entry, entry}
-use Rattle.message_notes.specs.Dialect.{Form, noteSize, headSize, Dialect}
+use Rattle.message_notes.specs.Dialect.{Form, noteSize, headSize}
 use Rattle.message_notes.specs.Notes.{countIn, noteAt}
 use Rattle.message_notes.specs.declared.Note.{Note}
 use Rattle.message_notes.specs.declared.Note.the-variants.{Field as FieldNote, End as EndNote, Malformed}
@@ -16,8 +16,8 @@ use Rattle.message_walk.specs.declared.Judged.{Judged}
 use Rattle.message_walk.specs.declared.Judged.the-variants.{Passed, End, Refused}
 use Rattle.message_walk.specs.declared.Walked.{Walked}
 use Rattle.message_walk.specs.declared.Walked.the-variants.{Ended, Refused as WalkRefused}
-use Rattle.message_walk.specs.Walk.{Fault, judged, passed, ending, entriesIn, listedFrom, listedIn}
-use Rattle.message_walk.proofs.Steps.{Good, passing, note-whole, ending-bad, ending-end, ending-more, passed-bad, passed-end, passed-more, listed-malformed, listed-end, listed-more}
+use Rattle.message_walk.specs.Walk.{Fault, judged, passed, ending, listedFrom, listedIn}
+use Rattle.message_walk.proofs.Steps.{Good, passing, note-whole, ending-bad, ending-end, ending-more, passed-end, passed-more, listed-malformed, listed-end, listed-more}
 
 -- A loop that judges: it has come to the place `at` and the number `last`, the whole walk ends as the rest of it does, and P holds of the
 -- entries still to come.

@@ -1,16 +1,14 @@
 -- The entries that a walk passes: what each has, and the set of their fields, gathered one by one. Assumes nothing.
-use Prim.Native.Nat.{ℕ, zero, suc, _*_}
-use mathlib.Core.Path.{_≡_, refl, sym, ap, _∙_}
+use Prim.Native.Nat.{ℕ, zero, suc}
+use mathlib.Core.Path.{_≡_, refl, sym, _∙_}
 use mathlib.Core.Bool.{true}
 use mathlib.Core.List.{List, [], _∷_}
-use lib.Dec.{leb, ltb}
 use lib.ListN.{length, drop}
-use Rattle.octets.specs.Lists.{both, all}
-use Rattle.octets.proofs.Cases.{both-left, both-right}
+use Rattle.octets.specs.Lists.{all}
 use Rattle.bitmap.specs.Bitmaps.{isField, noFields, withField, setOf, setFrom}
 use Rattle.bitmap.proofs.Sets.{set-is}
 use Rattle.message_language.specs.Language.{Entry, entry}
-use Rattle.message_contents.specs.Contents.{numbersOf, numberAllowed}
+use Rattle.message_contents.specs.Contents.{numbersOf}
 use Rattle.message_contents.proofs.Made.{is-field}
 use Rattle.message_notes.specs.Dialect.{Form, noteSize, headSize, Dialect}
 use Rattle.message_notes.specs.Notes.{countIn}

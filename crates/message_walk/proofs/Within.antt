@@ -1,7 +1,6 @@
 -- What a field has in which a walk finds nothing: its content lies within the values, and nothing is wrong with it. Assumes nothing.
 use Prim.Native.Nat.{ℕ, _+_, _≤_}
-use mathlib.Core.Path.{_≡_, sym}
-use mathlib.Core.Bool.{Bool, true, false}
+use mathlib.Core.Path.{_≡_}
 use mathlib.Core.List.{List}
 use native.Mathlib.Omega.{arith}
 use lib.Dec.{leb}
@@ -12,7 +11,7 @@ use Rattle.octets.proofs.Cases.{by-bool}
 use Rattle.refusal.specs.Numbers.{outsideValues}
 use Rattle.message_language.specs.Language.{Entry}
 use Rattle.message_contents.specs.Contents.{contentOf}
-use Rattle.message_walk.specs.Faults.{any, within}
+use Rattle.message_walk.specs.Faults.{within}
 
 module _ (v : List ℕ) (q : ℕ → List ℕ → ℕ) (e : Entry) where
   pub record Inside : Type 0 where

@@ -13,7 +13,7 @@ use Rattle.octets.specs.Numbers.{isDigit, bigEndian, digits}
 use Rattle.octets.proofs.Lists.{is-between}
 use Rattle.message_language.specs.Language.{Entry, entry, Reading}
 use Rattle.message_notes.specs.Dialect.{Form, noteSize, headKind, headSize, endSize, endKind, Dialect}
-use Rattle.message_notes.specs.Notes.{headNote, fieldNote, endNote, fieldNotes, notesOf, isHead, mtiIn, countIn, noteAt}
+use Rattle.message_notes.specs.Notes.{headNote, fieldNote, endNote, fieldNotes, notesOf, isHead, mtiIn, countIn}
 use Rattle.message_notes.proofs.Sizes.{head-long, field-long, notes-long}
 use Rattle.message_notes.proofs.Spelling.{Fits, AllFit, mark-back}
 use Rattle.message_notes.proofs.Reading.{field-back, end-back}

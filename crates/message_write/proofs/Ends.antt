@@ -19,11 +19,11 @@ use Rattle.refusal.specs.declared.Output.{Output}
 use Rattle.refusal.specs.declared.Output.the-variants.{Written, Refused}
 use Rattle.field_table.specs.Table.{Table}
 use Rattle.field_table.proofs.Rows.{Bounded}
-use Rattle.field_write.specs.Fields.{exactFault, cleanFault}
+use Rattle.field_write.specs.Fields.{exactFault}
 use Rattle.bitmap.specs.Bits.{bytesOf}
 use Rattle.bitmap.specs.Bitmaps.{mapBit, mapsFor, setOf, noFields}
-use Rattle.message_language.specs.Language.{Entry, entry}
-use Rattle.message_contents.specs.Contents.{Content, contentOf, contentsIn, numbersOf, numbersIn, bitmapsWith, messageWith, cleanedIn, shortIn}
+use Rattle.message_language.specs.Language.{Entry}
+use Rattle.message_contents.specs.Contents.{contentOf, contentsIn, numbersOf, bitmapsWith, messageWith, cleanedIn, shortIn}
 use Rattle.message_contents.proofs.Cleaning.{contents-numbers, cleaned-numbers, exact-whole}
 use Rattle.message_notes.specs.Dialect.{plainForm, headSize, Dialect, dialect}
 use Rattle.message_notes.specs.Notes.{mtiIn, countIn}

@@ -1,17 +1,17 @@
 -- The first walk of a writer: the fields named, the short ones and the size, gathered one by one. Assumes nothing.
-use Prim.Native.Nat.{ℕ, _+_, _*_, _≤_, _<_}
-use mathlib.Core.Path.{_≡_, refl, sym, ap, _∙_}
+use Prim.Native.Nat.{ℕ, _+_, _*_, _≤_}
+use mathlib.Core.Path.{_≡_, refl, sym, _∙_}
 use mathlib.Core.Bool.{Bool, true, false, cond}
 use mathlib.Core.List.{List, [], _∷_}
 use native.Mathlib.Omega.{arith}
-use lib.Dec.{eqb, leb}
+use lib.Dec.{leb}
 use borrow.Author.Tests.{leb-true}
 use Rattle.octets.specs.Lists.{all}
 use Rattle.octets.proofs.Cases.{by-bool, both-left, both-right}
 use Rattle.refusal.specs.declared.Refusal.{Refusal}
 use Rattle.field_table.specs.Table.{Table}
 use Rattle.field_table.proofs.Rows.{Bounded}
-use Rattle.field_write.specs.Fields.{isShort, missing, writtenSize, longest}
+use Rattle.field_write.specs.Fields.{isShort, writtenSize, longest}
 use Rattle.field_write.proofs.Padding.{missing-most}
 use Rattle.bitmap.specs.Bitmaps.{isField, noFields, withField, setOf, setFrom}
 use Rattle.bitmap.proofs.Sets.{set-is}

@@ -1,6 +1,6 @@
 -- Writing the fields that notes name, one behind the other, where every content may be written. Assumes nothing.
 use Prim.Native.Nat.{ℕ, _+_, _-_, _≤_}
-use mathlib.Core.Path.{_≡_, refl, sym, ap, subst, _∙_}
+use mathlib.Core.Path.{_≡_, sym, ap, subst, _∙_}
 use mathlib.Core.Bool.{cond}
 use mathlib.Core.List.{List, [], _∷_, _++_}
 use native.Mathlib.Omega.{arith}
@@ -22,9 +22,9 @@ use Rattle.message_contents.proofs.Cleaning.{body-none, body-more}
 use Rattle.message_notes.specs.Dialect.{dialect}
 use Rattle.message_notes.specs.Notes.{countIn}
 use Rattle.message_walk.specs.declared.Rule.the-variants.{Clean}
-use Rattle.message_walk.specs.Faults.{asked, within, faultBy}
+use Rattle.message_walk.specs.Faults.{asked, faultBy}
 use Rattle.message_walk.proofs.Naming.{AllGood, entries-good}
-use Rattle.message_walk.proofs.Within.{Inside, is-inside}
+use Rattle.message_walk.proofs.Within.{is-inside}
 use Rattle.message_write.specs.Written.{bodyOf, entriesBy, sizeIn}
 use Rattle.message_write.proofs.Weighing.{taken}
 

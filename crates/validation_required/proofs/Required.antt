@@ -11,17 +11,16 @@ use Rattle.octets.specs.Lists.{either, between, all}
 use Rattle.octets.proofs.Cases.{by-bool, by-eq, by-lt, both-fails, both-goes}
 use Rattle.octets.proofs.Lists.{below-low, above-high, is-between}
 use Rattle.refusal.specs.Numbers.{requiredMissing}
-use Rattle.refusal.specs.Refusals.{refusal, toldChecked}
+use Rattle.refusal.specs.Refusals.{refusal}
 use Rattle.refusal.specs.declared.Refusal.{Refusal}
 use Rattle.refusal.specs.declared.Checked.{Checked}
 use Rattle.refusal.specs.declared.Checked.the-variants.{Passed, Refused}
-use Rattle.field_table.specs.Table.{Table}
 use Rattle.bitmap.specs.Bitmaps.{isField, hasField}
 use Rattle.message_notes.specs.Dialect.{headSize, Dialect}
 use Rattle.message_notes.specs.Notes.{mtiIn}
 use Rattle.message_walk.specs.declared.Walked.{Walked}
 use Rattle.message_walk.specs.declared.Walked.the-variants.{Ended, Refused as WalkRefused}
-use Rattle.message_walk.specs.Walk.{Fault, walked, fieldsIn}
+use Rattle.message_walk.specs.Walk.{walked, fieldsIn}
 use Rattle.message_walk.specs.Faults.{any, within}
 use Rattle.message_walk.proofs.Heads.{Head, good-head, ended-head}
 use Rattle.validation_required.specs.Required.{secondDigit, thirdDigit, isCardRequest, isResponse, requiredOfResponse, requiredMore, requiredBy, isPresent, firstMissing, missingAnswer, requiredAfter, requiredIn}

@@ -8,7 +8,7 @@ use native.Mathlib.Omega.{arith}
 use Rattle.field_table.specs.Codes.{decoded}
 use Rattle.field_table.proofs.Decoded.{decoded-bounded}
 use Rattle.message_language.specs.Language.{Entry}
-use Rattle.message_notes.specs.Dialect.{plainForm, headSize, dialect}
+use Rattle.message_notes.specs.Dialect.{plainForm, headSize}
 use Rattle.message_notes.specs.Notes.{countIn}
 use Rattle.message_walk.specs.Walk.{Fault, ending, entriesIn, fieldsOn}
 use Rattle.message_walk.specs.Faults.{faultBy}
