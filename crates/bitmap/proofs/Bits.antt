@@ -11,7 +11,7 @@ use borrow.Author.Tests.{eq-eqb, ne-eqb}
 use Rattle.octets.specs.Lists.{either, between, all}
 use Rattle.octets.proofs.Cases.{false-true, both-left, both-right}
 use Rattle.octets.proofs.Lists.{between-high}
-use Rattle.octets.proofs.Tables.{below, at, entry}
+use Rattle.octets.proofs.Tables.{below, at}
 use Rattle.bitmap.specs.Bits.{bitIn, bitOf, byteOf, bytesOf, withBit}
 
 -- The ends of `is_set`.
@@ -27,16 +27,13 @@ pub bit-is : (s : List ℕ) (f : ℕ) → (f ≡ 0 → ⊥) → eqb (getD s ((f 
 unfolding bitOf
 bit-is s f h = rw (ne-eqb f 0 h)
 
--- What each bit is worth, and that one that is not set fits.
-pub powers : List ℕ
-powers = 128 ∷ 64 ∷ 32 ∷ 16 ∷ 8 ∷ 4 ∷ 2 ∷ 1 ∷ []
+-- What each bit is worth fits in a byte, and one that is not set fits in what is left.
+power-test : ℕ → Bool
+power-test i = eqb (1 * 2 ^ (7 - i) % 256) (2 ^ (7 - i))
 
-power-test : ℕ → ℕ → Bool
-power-test i x = eqb x (2 ^ (7 - i))
-
-pub power-at : (i : ℕ) → i < 8 → getD (128 ∷ 64 ∷ 32 ∷ 16 ∷ 8 ∷ 4 ∷ 2 ∷ 1 ∷ []) i 0 ≡ 2 ^ (7 - i)
-unfolding powers power-test
-power-at i h = eqb→eq (getD powers i 0) (2 ^ (7 - i)) (entry power-test powers tt i h)
+pub power-of : (i : ℕ) → i < 8 → 1 * 2 ^ (7 - i) % 256 ≡ 2 ^ (7 - i)
+unfolding power-test
+power-of i h = eqb→eq (1 * 2 ^ (7 - i) % 256) (2 ^ (7 - i)) (at power-test 8 tt i h)
 
 room-test : ℕ → ℕ → Bool
 room-test x i = either (bitIn x i) (ltb (x + 2 ^ (7 - i)) 256)

@@ -198,11 +198,8 @@ fn set_bit(b: u8, i: usize) -> u8
     if (b >> (7 - i)) % 2 == 1 {
         return b;
     }
-    b + POWERS[i]
+    b + (1 << (7 - i))
 }
-
-// What each bit of a byte is worth, the high one first.
-const POWERS: [u8; 8] = [128, 64, 32, 16, 8, 4, 2, 1];
 
 fn map_bytes(count: usize, bits: [u8; 24]) -> [u8; 24]
     requires { ⌜ count ≤ 3 ⌝ }
