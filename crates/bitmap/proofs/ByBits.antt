@@ -10,8 +10,9 @@ use lib.Seq.{getD-take, getD-drop, length-take-le, ext-getD}
 use borrow.Author.Tests.{eq-eqb, ne-eqb}
 use Rattle.octets.specs.Lists.{between, all}
 use Rattle.octets.proofs.Cases.{by-eq, both-left, both-right}
+use Rattle.octets.proofs.Lists.{laid}
 use Rattle.bitmap.specs.Bits.{bitIn, bitOf, bytesOf}
-use Rattle.bitmap.specs.Bitmaps.{isField, hasField, mapBit, mapsFor, chain, mapByte, mapsFrom}
+use Rattle.bitmap.specs.Bitmaps.{isField, hasField, noFields, mapBit, mapsFor, chain, mapByte, mapsFrom}
 use Rattle.bitmap.proofs.Bits.{bytes-of-bits}
 use Rattle.bitmap.proofs.Maps.{field-not-65, maps-length, maps-at, byte-beyond, byte-first, byte-second, byte-other}
 
@@ -45,6 +46,13 @@ other-bit b x (suc (suc (suc (suc (suc (suc (suc (suc j)))))))) h l u = absurd (
 pub bit-off : (on : Bool) (x j : ℕ) → 1 ≤ j → j < 8 → bitIn (chain on x) j ≡ bitIn x j
 bit-off true x j l u = ap (λ (n : ℕ). eqb n 1) (other-bit 1 x j (omega arith) l u)
 bit-off false x j l u = ap (λ (n : ℕ). eqb n 1) (other-bit 0 x j (omega arith) l u)
+
+zeros : (m : ℕ) → m ≤ 3 → drop (8 * m) noFields ≡ replicate (24 - 8 * m) 0
+zeros zero h = refl
+zeros (suc zero) h = refl
+zeros (suc (suc zero)) h = refl
+zeros (suc (suc (suc zero))) h = refl
+zeros (suc (suc (suc (suc m)))) h = absurd (omega arith)
 
 module _ (m : ℕ) (s : List ℕ) (few : m ≤ 3) where
   abbrev made : List ℕ
@@ -107,6 +115,19 @@ module _ (m : ℕ) (s : List ℕ) (few : m ≤ 3) where
       getD-drop (8 * m) made n 0
       ∙ sym (maps-at m s (8 * m + n) 0 (omega arith) (byte-beyond m (8 * m + n) (getD s (8 * m + n) 0) (omega arith)))
 
+  beyond : drop (8 * m) made ≡ replicate (24 - 8 * m) 0
+  beyond =
+      let d : length (drop (8 * m) made) ≡ 24 - 8 * m = length-drop (8 * m) made ∙ omega (arith, maps-length m s) in
+      ext-getD 0 (drop (8 * m) made) (replicate (24 - 8 * m) 0) (d ∙ sym (length-replicate (24 - 8 * m) 0))
+      (λ k h. tail-zero k (omega (arith, d)) ∙ sym (getD-replicate (24 - 8 * m) k 0 0 (omega (arith, d))))
+
+  -- behind the last bitmap there are zeros already
+  pub maps-done : (e : List ℕ) (i : ℕ) → e ≡ laid made noFields i → i ≤ 8 * m → 8 * m ≤ i → e ≡ made
+  unfolding laid
+  maps-done e i h l u =
+      let n : i ≡ 8 * m = omega arith in
+      h ∙ rw (n, zeros m few, ← beyond) (take-append-drop (8 * m) made)
+
   pub maps-made : all (between 0 255) made ≡ true → made ≡ mapsFor m s
   unfolding mapsFor
   maps-made a =
@@ -114,8 +135,4 @@ module _ (m : ℕ) (s : List ℕ) (few : m ≤ 3) where
       let front : bytesOf (mapBit m s) (8 * m) 1 ≡ take (8 * m) made =
       ap (λ (k : ℕ). bytesOf (mapBit m s) k 1) (sym n)
       ∙ bytes-of-bits (mapBit m s) (take (8 * m) made) (all-take (between 0 255) made (8 * m) a) (λ f l u. made-bit f l (omega (arith, n))) in
-      let d : length (drop (8 * m) made) ≡ 24 - 8 * m = length-drop (8 * m) made ∙ omega (arith, maps-length m s) in
-      let back : drop (8 * m) made ≡ replicate (24 - 8 * m) 0 =
-      ext-getD 0 (drop (8 * m) made) (replicate (24 - 8 * m) 0) (d ∙ sym (length-replicate (24 - 8 * m) 0))
-      (λ k h. tail-zero k (omega (arith, d)) ∙ sym (getD-replicate (24 - 8 * m) k 0 0 (omega (arith, d)))) in
-      sym (take-append-drop (8 * m) made) ∙ rw (← front, back)
+      sym (take-append-drop (8 * m) made) ∙ rw (← front, beyond)

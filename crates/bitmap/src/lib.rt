@@ -206,9 +206,10 @@ fn map_bytes(count: usize, bits: [u8; 24]) -> [u8; 24]
     ensures made { λ r. ⌜ r ≡ mapsFrom count bits 24 0 ⌝ }
     ensures bytes { λ r. ⌜ all (between 0 255) r ≡ true ⌝ }
 {
+    let end = 8 * count;
     let mut bytes = [0u8; 24];
     let mut i: usize = 0;
-    while i < 24 {
+    while i < end {
         bytes[i] = map_byte(count, i, bits[i]);
         i += 1;
     }

@@ -1,13 +1,12 @@
 -- The first i bytes are made, and all of them are bytes.
-use mathlib.Core.Path.{_≡_, refl, _∙_}
+use mathlib.Core.Path.{_≡_, refl}
 use mathlib.Core.Bool.{true}
 use Prim.Native.Nat.{_≤_, _-_}
 use lib.ListN.{length}
 use Rattle.octets.specs.Lists.{between, all}
-use Rattle.octets.proofs.Lists.{laid, laid-none, laid-step, laid-all, lay-whole}
+use Rattle.octets.proofs.Lists.{laid, laid-none, laid-step, is-between}
 use Rattle.bitmap.specs.Bitmaps.{mapsFrom, noFields}
-use Rattle.bitmap.proofs.ByBits.{all-set}
-use Rattle.octets.proofs.Lists.{is-between}
+use Rattle.bitmap.proofs.ByBits.{all-set, maps-done}
 use Rattle.bitmap.proofs.Maps.{maps-length, maps-at}
 use borrow.Author.Needs.{needs}
 use native.Mathlib.Omega.{arith}
@@ -15,10 +14,13 @@ use Rattle.bitmap.proofs.map_bytes.Statement.{statement}
 use Rattle.bitmap.proofs.map_bytes.Tie as tie
 
 abbrev Inv-loop : tie.InvT-loop
-Inv-loop count bits bytes₀ i₀ bytes i = (i ≤ 24) × ((bytes ≡ laid (mapsFrom count bits 24 0) noFields i) × ((length bytes ≡ 24) × (all (between 0 255) bytes ≡ true)))
+Inv-loop count bits end bytes₀ i₀ bytes i = (i ≤ end) × ((bytes ≡ laid (mapsFrom count bits 24 0) noFields i) × ((length bytes ≡ 24) × (all (between 0 255) bytes ≡ true)))
 
 abbrev μ-loop : tie.MeasureT-loop
-μ-loop count bits bytes₀ i₀ bytes i = 24 - i
+μ-loop count bits end bytes₀ i₀ bytes i = end - i
+
+mul-end : tie.Need-mul-end Inv-loop μ-loop
+mul-end c = search needs
 
 loop-holds : tie.Need-loop-holds Inv-loop μ-loop
 unfolding between
@@ -53,12 +55,8 @@ loop-again c =
 
 returns : tie.Need-returns Inv-loop μ-loop
 returns c =
-    let a = c .before .before .args in
     let l = c .before .loop in
-    let n = maps-length (a .count) (a .t2) in (
-      laid-all _ _ _ _ (l .inv .1 .0) (omega arith) (omega arith) ∙ lay-whole (mapsFrom (a .count) (a .t2) 24 0) noFields (omega arith),
-      l .inv .1 .1 .1,
-    )
+    (maps-done _ _ (c .before .before .pre) _ _ (l .inv .1 .0) (l .inv .0) (c .loop-test .left), l .inv .1 .1 .1)
 
 pub map-bytes-spec : {M : Type 1} → statement M
 map-bytes-spec =
@@ -66,6 +64,7 @@ map-bytes-spec =
     (tie.spec
     Inv-loop
     μ-loop
+    mul-end
     loop-holds
     array-read-map-byte
     map-byte-requires
