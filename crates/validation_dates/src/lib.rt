@@ -4,12 +4,13 @@ ghost use mathlib.Core.Path.{_≡_};
 ghost use Prim.Native.Nat.{_+_, _≤_};
 ghost use lib.ListN.{length};
 ghost use Rattle.octets.specs.Lists.{between};
-ghost use Rattle.refusal.specs.Refusals.{checked};
+ghost use Rattle.refusal.specs.Refusals.{checked, toldChecked};
 ghost use Rattle.validation_dates.specs.Dates.{pair, isDate, isTime, dateFault, timeFault};
 
 // Checks one content as a date, MMDD.
 pub fn check_date(content: &[u8]) -> Checked
-    ensures { λ r. ⌜ r ≡ checked (dateFault (now (content .entry))) 0 ⌝ }
+    ensures answers { λ r. ⌜ r ≡ checked (dateFault (now (content .entry))) 0 ⌝ }
+    ensures tells { λ r. ⌜ toldChecked r ≡ toldChecked (checked (dateFault (now (content .entry))) 0) ⌝ }
 {
     if is_date(content) {
         return Checked::Passed;
@@ -19,7 +20,8 @@ pub fn check_date(content: &[u8]) -> Checked
 
 // Checks one content as a time of day, hhmmss.
 pub fn check_time(content: &[u8]) -> Checked
-    ensures { λ r. ⌜ r ≡ checked (timeFault (now (content .entry))) 0 ⌝ }
+    ensures answers { λ r. ⌜ r ≡ checked (timeFault (now (content .entry))) 0 ⌝ }
+    ensures tells { λ r. ⌜ toldChecked r ≡ toldChecked (checked (timeFault (now (content .entry))) 0) ⌝ }
 {
     if is_time(content) {
         return Checked::Passed;

@@ -1,14 +1,15 @@
 // The field check: whether a content may stand in a field, by 01's table. Nothing is changed. 01, "Checks and conversions".
 use refusal::Checked;
 ghost use mathlib.Core.Path.{_≡_};
-ghost use Rattle.refusal.specs.Refusals.{checked};
+ghost use Rattle.refusal.specs.Refusals.{checked, toldChecked};
 ghost use Rattle.field_table.specs.House.{house};
 ghost use Rattle.field_table.specs.Codes.{decoded};
 ghost use Rattle.validation_field.specs.Checks.{firstFailing, isAmountField, valueTests, fieldFault, isCurrency};
 
 // Checks the content of field number: number, class, length, and for some fields the value.
 pub fn check_field(number: usize, content: &[u8]) -> Checked
-    ensures { λ r. ⌜ r ≡ checked (fieldFault house number (now (content .entry))) number ⌝ }
+    ensures answers { λ r. ⌜ r ≡ checked (fieldFault house number (now (content .entry))) number ⌝ }
+    ensures tells { λ r. ⌜ toldChecked r ≡ toldChecked (checked (fieldFault house number (now (content .entry))) number) ⌝ }
 {
     refusal::answer_check(field_fault(number, content), number)
 }

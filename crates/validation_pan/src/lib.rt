@@ -3,7 +3,7 @@ use refusal::Checked;
 ghost use mathlib.Core.Path.{_≡_};
 ghost use Prim.Native.Nat.{_-_, _%_, _<_, _≤_};
 ghost use lib.ListN.{length};
-ghost use Rattle.refusal.specs.Refusals.{checked};
+ghost use Rattle.refusal.specs.Refusals.{checked, toldChecked};
 ghost use Rattle.validation_pan.specs.Pan.{digitsIn, worth, luhnSum, isPan, panFault};
 
 // How many digits a PAN has, at least and at most.
@@ -13,7 +13,8 @@ const MOST_DIGITS: usize = 19;
 
 // Checks one content as a PAN.
 pub fn check_pan(content: &[u8]) -> Checked
-    ensures { λ r. ⌜ r ≡ checked (panFault (now (content .entry))) 0 ⌝ }
+    ensures answers { λ r. ⌜ r ≡ checked (panFault (now (content .entry))) 0 ⌝ }
+    ensures tells { λ r. ⌜ toldChecked r ≡ toldChecked (checked (panFault (now (content .entry))) 0) ⌝ }
 {
     refusal::answer_check(pan_fault(content), 0)
 }

@@ -1,4 +1,6 @@
 -- One law for each end, in Dates.
+use mathlib.Core.Path.{ap}
+use Rattle.refusal.specs.Refusals.{toldChecked}
 use Rattle.validation_dates.proofs.Dates.{date-good, date-bad}
 use borrow.Author.Needs.{needs}
 use Rattle.validation_dates.proofs.check_date.Statement.{statement}
@@ -8,13 +10,17 @@ is-date-requires : tie.Need-is-date-requires
 is-date-requires c κs = search needs
 
 returns : tie.Need-returns
-returns c = search (date-good, needs)
+returns c =
+    let r = date-good _ _ (c .before .is-date .ensures) (c .if1 .taken) in
+    (r, ap toldChecked r)
 
 answer-check-requires : tie.Need-answer-check-requires
 answer-check-requires c κs = search needs
 
 returns-2 : tie.Need-returns-2
-returns-2 c = search (date-bad, needs)
+returns-2 c =
+    let r = date-bad _ _ (c .before .before .is-date .ensures) (c .before .if1 .left) _ (c .answer-check .ensures) in
+    (r, ap toldChecked r)
 
 pub check-date-spec : {M : Type 1} → statement M
 check-date-spec = tie.close (tie.spec is-date-requires returns answer-check-requires returns-2)

@@ -1,4 +1,6 @@
 -- One law for each end, in Dates.
+use mathlib.Core.Path.{ap}
+use Rattle.refusal.specs.Refusals.{toldChecked}
 use Rattle.validation_dates.proofs.Dates.{time-good, time-bad}
 use borrow.Author.Needs.{needs}
 use Rattle.validation_dates.proofs.check_time.Statement.{statement}
@@ -8,13 +10,17 @@ is-time-requires : tie.Need-is-time-requires
 is-time-requires c κs = search needs
 
 returns : tie.Need-returns
-returns c = search (time-good, needs)
+returns c =
+    let r = time-good _ _ (c .before .is-time .ensures) (c .if1 .taken) in
+    (r, ap toldChecked r)
 
 answer-check-requires : tie.Need-answer-check-requires
 answer-check-requires c κs = search needs
 
 returns-2 : tie.Need-returns-2
-returns-2 c = search (time-bad, needs)
+returns-2 c =
+    let r = time-bad _ _ (c .before .before .is-time .ensures) (c .before .if1 .left) _ (c .answer-check .ensures) in
+    (r, ap toldChecked r)
 
 pub check-time-spec : {M : Type 1} → statement M
 check-time-spec = tie.close (tie.spec is-time-requires returns answer-check-requires returns-2)

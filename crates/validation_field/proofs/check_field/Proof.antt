@@ -1,4 +1,6 @@
 -- The law of its end is in Checks of refusal.
+use mathlib.Core.Path.{ap}
+use Rattle.refusal.specs.Refusals.{toldChecked}
 use Rattle.refusal.proofs.Checks.{checked-found}
 use borrow.Author.Needs.{needs}
 use Rattle.validation_field.proofs.check_field.Statement.{statement}
@@ -11,7 +13,9 @@ answer-check-requires : tie.Need-answer-check-requires
 answer-check-requires c κs = search needs
 
 returns : tie.Need-returns
-returns c = search (checked-found, needs)
+returns c =
+    let r = checked-found _ _ _ _ (c .answer-check .ensures) (c .before .field-fault .ensures) in
+    (r, ap toldChecked r)
 
 pub check-field-spec : {M : Type 1} → statement M
 check-field-spec = tie.close (tie.spec field-fault-requires answer-check-requires returns)
