@@ -12,12 +12,13 @@ ghost use Prim.Native.Nat.{_+_, _-_, _<_, _≤_};
 ghost use lib.ListN.{length, getD};
 ghost use Rattle.octets.specs.Lists.{all, lay};
 ghost use Rattle.octets.specs.Numbers.{isDigit};
-ghost use Rattle.refusal.specs.Refusals.{converted, convertedInto};
+ghost use Rattle.refusal.specs.Refusals.{told, converted, convertedInto};
 ghost use Rattle.encoding_bcd.specs.Bcd.{bytesOf, evened, packed, spread, unpacked, isBcd, spareZero, encodeFault, decodeFault};
 
 // Writes the ASCII digits of src in BCD: 21 where a byte of src is no digit, then 14.
 pub fn encode(src: &[u8], out: &mut [u8]) -> Output
     ensures answers { λ r. ⌜ r ≡ converted (encodeFault (now (src .entry))) (packed (now (src .entry))) (now (out .entry)) ⌝ }
+    ensures tells { λ r. ⌜ told r ≡ told (converted (encodeFault (now (src .entry))) (packed (now (src .entry))) (now (out .entry))) ⌝ }
     ensures writes { λ _. ⌜ now (out .exit) ≡ convertedInto (encodeFault (now (src .entry))) (packed (now (src .entry))) (now (out .entry)) ⌝ }
 {
     let fault = encode_fault(src);
@@ -44,6 +45,7 @@ pub fn encode(src: &[u8], out: &mut [u8]) -> Output
 // 22 where a half-byte is over 9 or the spare leading digit of an odd count is not 0; then 14.
 pub fn decode(src: &[u8], digits: usize, out: &mut [u8]) -> Output
     ensures answers { λ r. ⌜ r ≡ converted (decodeFault digits (now (src .entry))) (unpacked digits (now (src .entry))) (now (out .entry)) ⌝ }
+    ensures tells { λ r. ⌜ told r ≡ told (converted (decodeFault digits (now (src .entry))) (unpacked digits (now (src .entry))) (now (out .entry))) ⌝ }
     ensures writes { λ _. ⌜ now (out .exit) ≡ convertedInto (decodeFault digits (now (src .entry))) (unpacked digits (now (src .entry))) (now (out .entry)) ⌝ }
 {
     let fault = decode_fault(src, digits);

@@ -12,7 +12,7 @@ ghost use mathlib.Core.List.{map};
 ghost use Prim.Native.Nat.{_≤_};
 ghost use lib.ListN.{length};
 ghost use Rattle.octets.specs.Lists.{lay};
-ghost use Rattle.refusal.specs.Refusals.{converted, convertedInto};
+ghost use Rattle.refusal.specs.Refusals.{told, converted, convertedInto};
 ghost use Rattle.encoding_ebcdic.specs.Ebcdic.{table, asciiOf, ebcdicOf, entryIn, encodeFault, decodeFault};
 
 // What each EBCDIC byte means. A call takes it into a local once: to index the constant would lay it down anew for each byte.
@@ -278,6 +278,7 @@ const TABLE: [u8; 256] = [
 // Writes the ASCII text of src in EBCDIC: 24 where a byte of src is over 0x7F, then 14.
 pub fn encode(src: &[u8], out: &mut [u8]) -> Output
     ensures answers { λ r. ⌜ r ≡ converted (encodeFault (now (src .entry))) (map ebcdicOf (now (src .entry))) (now (out .entry)) ⌝ }
+    ensures tells { λ r. ⌜ told r ≡ told (converted (encodeFault (now (src .entry))) (map ebcdicOf (now (src .entry))) (now (out .entry))) ⌝ }
     ensures writes { λ _. ⌜ now (out .exit) ≡ convertedInto (encodeFault (now (src .entry))) (map ebcdicOf (now (src .entry))) (now (out .entry)) ⌝ }
 {
     let fault = encode_fault(src);
@@ -303,6 +304,7 @@ pub fn encode(src: &[u8], out: &mut [u8]) -> Output
 // Writes the EBCDIC text of src in ASCII: 24 where the meaning of a byte is over 0x7F, then 14.
 pub fn decode(src: &[u8], out: &mut [u8]) -> Output
     ensures answers { λ r. ⌜ r ≡ converted (decodeFault (now (src .entry))) (map asciiOf (now (src .entry))) (now (out .entry)) ⌝ }
+    ensures tells { λ r. ⌜ told r ≡ told (converted (decodeFault (now (src .entry))) (map asciiOf (now (src .entry))) (now (out .entry))) ⌝ }
     ensures writes { λ _. ⌜ now (out .exit) ≡ convertedInto (decodeFault (now (src .entry))) (map asciiOf (now (src .entry))) (now (out .entry)) ⌝ }
 {
     let meanings = TABLE;

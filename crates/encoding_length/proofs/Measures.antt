@@ -19,12 +19,16 @@ use Rattle.refusal.specs.declared.Refusal.{Refusal}
 use Rattle.refusal.specs.declared.Output.{Output}
 use Rattle.refusal.specs.declared.Output.the-variants.{Written, Refused as Unwritten}
 use Rattle.refusal.proofs.Conversions.{converted-fits, converted-into-fits, converted-fails}
-use Rattle.encoding_length.specs.Lengths.{isWidth, sizeOf, textOf, alphabetFault, decodeFault, measured}
+use Rattle.encoding_length.specs.Lengths.{isWidth, sizeOf, textOf, alphabetFault, decodeFault, toldLength, measured}
 use Rattle.encoding_length.specs.declared.Encoding.{Encoding}
 use Rattle.encoding_length.specs.declared.Measured.{Measured}
 use Rattle.encoding_length.specs.declared.Measured.the-variants.{Length, Refused}
 use Rattle.encoding_length.proofs.Widths.{width-most}
 use Rattle.encoding_length.proofs.Texts.{front, text-length}
+
+-- decoding whose answer is known: what it tells is known too
+pub length-tells : {r a : Measured} → r ≡ a → (r ≡ a) × (toldLength r ≡ toldLength a)
+length-tells h = (h, ap toldLength h)
 
 -- measuring a text: flag is what the test of its digits answered
 module _ (flag : Bool) (t : List ℕ) (tested : flag ≡ all isDigit t) where

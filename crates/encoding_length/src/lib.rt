@@ -17,9 +17,9 @@ ghost use Prim.Native.Nat.{_^_, _≤_};
 ghost use lib.ListN.{length};
 ghost use Rattle.octets.specs.Lists.{all};
 ghost use Rattle.octets.specs.Numbers.{isDigit, decimal, decimalOf};
-ghost use Rattle.refusal.specs.Refusals.{plain, converted, convertedInto};
+ghost use Rattle.refusal.specs.Refusals.{plain, told, converted, convertedInto};
 ghost use Rattle.refusal.specs.Numbers.{lengthNotDigits};
-ghost use Rattle.encoding_length.specs.Lengths.{isWidth, sizeOf, spelt, textOf, asciiFault, encodeFault, alphabetFault, measured};
+ghost use Rattle.encoding_length.specs.Lengths.{isWidth, sizeOf, spelt, textOf, asciiFault, encodeFault, alphabetFault, toldLength, measured};
 
 pub enum Encoding {
     Ascii,
@@ -36,6 +36,7 @@ pub enum Measured {
 // Writes a length in the given count of digits: 25 where these are not two or three or the length needs more, then 14.
 pub fn encode(length: usize, digits: usize, encoding: Encoding, out: &mut [u8]) -> Output
     ensures answers { λ r. ⌜ r ≡ converted (encodeFault digits length) (spelt encoding (decimal digits length)) (now (out .entry)) ⌝ }
+    ensures tells { λ r. ⌜ told r ≡ told (converted (encodeFault digits length) (spelt encoding (decimal digits length)) (now (out .entry))) ⌝ }
     ensures writes { λ _. ⌜ now (out .exit) ≡ convertedInto (encodeFault digits length) (spelt encoding (decimal digits length)) (now (out .entry)) ⌝ }
 {
     let fault = encode_fault(length, digits);
@@ -54,7 +55,8 @@ pub fn encode(length: usize, digits: usize, encoding: Encoding, out: &mut [u8]) 
 // Reads a length of the given count of digits: 25 where these are not two or three, 23 where src has not the bytes for
 // them, 22 or 24 where src is no text of the encoding, then 6 where a character is no digit.
 pub fn decode(src: &[u8], digits: usize, encoding: Encoding) -> Measured
-    ensures { λ r. ⌜ r ≡ measured encoding digits (now (src .entry)) ⌝ }
+    ensures answers { λ r. ⌜ r ≡ measured encoding digits (now (src .entry)) ⌝ }
+    ensures tells { λ r. ⌜ toldLength r ≡ toldLength (measured encoding digits (now (src .entry))) ⌝ }
 {
     if !is_width(digits) {
         return Measured::Refused(Refusal {

@@ -9,6 +9,7 @@ use Rattle.octets.specs.Lists.{lay}
 use Rattle.octets.proofs.Lists.{placed-short, placed-fits}
 use Rattle.refusal.specs.Numbers.{outputTooShort}
 use Rattle.refusal.specs.Refusals.{plain, tell, told, converted, convertedInto}
+use Rattle.refusal.specs.declared.Output.{Output}
 use Rattle.refusal.specs.declared.Output.the-variants.{Written, Refused}
 
 module _ (fault source : ℕ) (r d : List ℕ) (tested : fault ≡ source) where
@@ -36,6 +37,10 @@ module _ (fault source : ℕ) (r d : List ℕ) (tested : fault ≡ source) where
     pub done-output : (e : List ℕ) → n ≤ length d → e ≡ lay r d → e ≡ convertedInto source r d
     unfolding convertedInto
     done-output e h w = rw (← tested, eq-eqb fault 0 good) (w ∙ sym (placed-fits r d n sized h))
+
+-- A conversion whose answer and output are known: what it tells is known too.
+pub answer-tells : {r a : Output} {e o : List ℕ} → r ≡ a → e ≡ o → (r ≡ a) × ((told r ≡ told a) × (e ≡ o))
+answer-tells h w = (h, (ap told h, w))
 
 -- A conversion whose source does not fail, where its result fits.
 pub converted-fits : (n : ℕ) (r d : List ℕ) → n ≡ 0 → length r ≤ length d → converted n r d ≡ Written (length r)

@@ -15,13 +15,13 @@ decode-requires-3 : tie.Need-decode-requires-3
 decode-requires-3 c κs = search needs
 
 returns : tie.Need-returns
-returns c = decoded-in Ascii _ _ _ _ (c .before .match .keys1) (c .decode .ensures)
+returns c = decoded-in Ascii _ _ _ _ (c .before .match .keys1) (c .decode .ensures .0)
 
 returns-2 : tie.Need-returns-2
-returns-2 c = decoded-in Bcd _ _ _ _ (c .before .match .keys2) (c .decode2 .ensures)
+returns-2 c = decoded-in Bcd _ _ _ _ (c .before .match .keys2) (c .decode2 .ensures .0)
 
 returns-3 : tie.Need-returns-3
-returns-3 c = decoded-in Ebcdic _ _ _ _ (c .before .match .keys3) (c .decode3 .ensures)
+returns-3 c = decoded-in Ebcdic _ _ _ _ (c .before .match .keys3) (c .decode3 .ensures .0)
 
 returns-4 : tie.Need-returns-4
 returns-4 c = decoded-none _ _ _ (c .match .rest .0 .0 .1) (c .match .rest .0 .1) (c .match .rest .1)

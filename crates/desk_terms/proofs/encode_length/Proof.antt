@@ -18,19 +18,25 @@ same-length : tie.Need-same-length
 same-length c = search needs
 
 returns : tie.Need-returns
-returns c = encoded-in Ascii _ _ _ _ _ _ (c .before .before .before .before .match .keys1) (c .before .before .encode .ensures)
+returns c =
+    let made = c .before .before .encode .ensures in
+    encoded-in Ascii _ _ _ _ _ _ (c .before .before .before .before .match .keys1) (made .0, made .1 .1)
 
 same-length-2 : tie.Need-same-length-2
 same-length-2 c = search needs
 
 returns-2 : tie.Need-returns-2
-returns-2 c = encoded-in Bcd _ _ _ _ _ _ (c .before .before .before .before .match .keys2) (c .before .before .encode2 .ensures)
+returns-2 c =
+    let made = c .before .before .encode2 .ensures in
+    encoded-in Bcd _ _ _ _ _ _ (c .before .before .before .before .match .keys2) (made .0, made .1 .1)
 
 same-length-3 : tie.Need-same-length-3
 same-length-3 c = search needs
 
 returns-3 : tie.Need-returns-3
-returns-3 c = encoded-in Ebcdic _ _ _ _ _ _ (c .before .before .before .before .match .keys3) (c .before .before .encode3 .ensures)
+returns-3 c =
+    let made = c .before .before .encode3 .ensures in
+    encoded-in Ebcdic _ _ _ _ _ _ (c .before .before .before .before .match .keys3) (made .0, made .1 .1)
 
 returns-4 : tie.Need-returns-4
 returns-4 c = encoded-none _ _ _ _ (c .match .rest .0 .0 .1) (c .match .rest .0 .1) (c .match .rest .1)

@@ -1,5 +1,5 @@
 -- A conversion has three ends: the source fails, the output is too short, or the bytes are written.
-use Rattle.refusal.proofs.Conversions.{refused-answer, refused-output, short-answer, short-output, done-answer, done-output}
+use Rattle.refusal.proofs.Conversions.{refused-answer, refused-output, short-answer, short-output, done-answer, done-output, answer-tells}
 use Rattle.encoding_bcd.proofs.Faults.{decode-clean, unpacked-sized}
 use borrow.Author.Needs.{needs}
 use Rattle.encoding_bcd.proofs.decode.Statement.{statement}
@@ -9,10 +9,10 @@ decode-fault-requires : tie.Need-decode-fault-requires
 decode-fault-requires c κs = search needs
 
 returns : tie.Need-returns
-returns c = search (refused-answer, refused-output, needs)
+returns c = answer-tells (search (refused-answer, needs)) (search (refused-output, needs))
 
 returns-2 : tie.Need-returns-2
-returns-2 c = search (short-answer, short-output, unpacked-sized, needs)
+returns-2 c = answer-tells (search (short-answer, unpacked-sized, needs)) (search (short-output, unpacked-sized, needs))
 
 put-unpacked-requires : tie.Need-put-unpacked-requires
 put-unpacked-requires c κs = (search (decode-clean, needs), search needs)
@@ -21,7 +21,7 @@ same-length : tie.Need-same-length
 same-length c = search needs
 
 returns-3 : tie.Need-returns-3
-returns-3 c = search (done-answer, done-output, unpacked-sized, needs)
+returns-3 c = answer-tells (search (done-answer, unpacked-sized, needs)) (search (done-output, unpacked-sized, needs))
 
 pub decode-spec : {M : Type 1} → statement M
 decode-spec =

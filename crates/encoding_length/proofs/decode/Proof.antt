@@ -1,5 +1,5 @@
 -- The ends of decoding, in the order of its tests.
-use Rattle.encoding_length.proofs.Measures.{digits-wrong, bytes-wrong, passed-up, read-room, read-count, read-few, measured-text}
+use Rattle.encoding_length.proofs.Measures.{length-tells, digits-wrong, bytes-wrong, passed-up, read-room, read-count, read-few, measured-text}
 use borrow.Author.Needs.{needs}
 use Rattle.encoding_length.proofs.decode.Statement.{statement}
 use Rattle.encoding_length.proofs.decode.Tie as tie
@@ -8,13 +8,13 @@ is-width-requires : tie.Need-is-width-requires
 is-width-requires c κs = search needs
 
 returns : tie.Need-returns
-returns c = search (digits-wrong, needs)
+returns c = length-tells (search (digits-wrong, needs))
 
 size-of-requires : tie.Need-size-of-requires
 size-of-requires c κs = search needs
 
 returns-2 : tie.Need-returns-2
-returns-2 c = search (bytes-wrong, needs)
+returns-2 c = length-tells (search (bytes-wrong, needs))
 
 slice-aggregate-put-text : tie.Need-slice-aggregate-put-text
 slice-aggregate-put-text c = search needs
@@ -38,10 +38,10 @@ measure-requires : tie.Need-measure-requires
 measure-requires c κs = search (read-few, needs)
 
 returns-3 : tie.Need-returns-3
-returns-3 c = search (passed-up, needs)
+returns-3 c = length-tells (search (passed-up, needs))
 
 returns-4 : tie.Need-returns-4
-returns-4 c = search (measured-text, needs)
+returns-4 c = length-tells (search (measured-text, needs))
 
 pub decode-spec : {M : Type 1} → statement M
 decode-spec =

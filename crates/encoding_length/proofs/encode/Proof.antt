@@ -1,5 +1,5 @@
 -- The digits of the length are the front of the text, and no encoding refuses them.
-use Rattle.refusal.proofs.Conversions.{refused-answer, refused-output}
+use Rattle.refusal.proofs.Conversions.{refused-answer, refused-output, answer-tells}
 use Rattle.encoding_length.proofs.Texts.{text-room, text-count, text-digits, encoded-answer, encoded-output}
 use borrow.Author.Needs.{needs}
 use Rattle.encoding_length.proofs.encode.Statement.{statement}
@@ -9,7 +9,7 @@ encode-fault-requires : tie.Need-encode-fault-requires
 encode-fault-requires c κs = search needs
 
 returns : tie.Need-returns
-returns c = search (refused-answer, refused-output, needs)
+returns c = answer-tells (search (refused-answer, needs)) (search (refused-output, needs))
 
 slice-aggregate-put-decimal : tie.Need-slice-aggregate-put-decimal
 slice-aggregate-put-decimal c = search needs
@@ -30,7 +30,7 @@ same-length : tie.Need-same-length
 same-length c = search needs
 
 returns-2 : tie.Need-returns-2
-returns-2 c = (search (encoded-answer, needs), search (encoded-output, needs))
+returns-2 c = answer-tells (search (encoded-answer, needs)) (search (encoded-output, needs))
 
 pub encode-spec : {M : Type 1} → statement M
 encode-spec =

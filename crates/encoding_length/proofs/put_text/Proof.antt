@@ -39,7 +39,8 @@ returns-2 : tie.Need-returns-2
 unfolding alphabetFault textOf
 returns-2 c =
     let told = c .before .before .before .before .enum-told2 .given .1 in
-    same-conversion _ _ _ _ _ _ _ (rw told) (rw told) (c .before .before .decode .ensures)
+    let made = c .before .before .decode .ensures in
+    same-conversion _ _ _ _ _ _ _ (rw told) (rw told) (made .0, made .1 .1)
 
 same-length-3 : tie.Need-same-length-3
 same-length-3 c = search needs
@@ -48,7 +49,8 @@ returns-3 : tie.Need-returns-3
 unfolding alphabetFault textOf
 returns-3 c =
     let told = c .before .before .before .before .enum-told3 .given .1 in
-    same-conversion _ _ _ _ _ _ _ (rw told) (rw told) (c .before .before .decode2 .ensures)
+    let made = c .before .before .decode2 .ensures in
+    same-conversion _ _ _ _ _ _ _ (rw told) (rw told) (made .0, made .1 .1)
 
 pub put-text-spec : {M : Type 1} → statement M
 put-text-spec =
