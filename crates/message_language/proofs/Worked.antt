@@ -1,17 +1,18 @@
--- 01's worked messages in the language (specs/Worked.antt), part by part. Assumes nothing.
+-- 01's worked messages, and others, in the language (specs/Worked.antt), part by part. Assumes nothing.
 use Prim.Native.Nat.{ℕ, _+_, _*_, _≤_}
-use mathlib.Core.Path.{_≡_, refl}
+use mathlib.Core.Path.{_≡_, refl, sym}
 use mathlib.Core.List.{List, [], _∷_, _++_}
 use native.Mathlib.Omega.{arith}
 use lib.ListN.{length, replicate}
 use Rattle.octets.specs.Lists.{between}
 use Rattle.octets.specs.Numbers.{number}
+use Rattle.octets.proofs.Cases.{false-true}
 use Rattle.field_table.specs.Table.{tableOf}
 use Rattle.field_table.specs.House.{house, houseRows}
 use Rattle.bitmap.specs.Bits.{bitOf}
 use Rattle.bitmap.specs.Bitmaps.{isField, hasField, countOf, fieldsFrom, fieldsOf}
 use Rattle.message_language.specs.Language.{Item, Entry, entry, Fields, none, more, Message}
-use Rattle.message_language.specs.Worked.{mti, bitmap, reading, WorkedMessages}
+use Rattle.message_language.specs.Worked.{mti, bitmap, reading, WorkedMessages, OtherMessages}
 
 -- a message of that MTI, with these bitmaps and fields
 made : (m : ℕ) (maps body : List ℕ) (es : List Entry) → m ≡ countOf maps → length maps ≡ 8 * m → m ≤ 3 → Fields house (4 + 8 * m) (fieldsOf maps m) body es → Message house 3 (mti ++ (maps ++ body)) (reading m es)
@@ -94,4 +95,51 @@ worked-messages =
       case-6 = made 2 (bitmap 0x80 ++ bitmap 0) [] [] refl refl (omega arith) two-maps;
       case-7 = made 2 (bitmap 0x80 ++ bitmap 4) (0x33 ∷ 0x30 ∷ 0x31 ∷ []) _ refl refl (omega arith) field-70;
       case-8 = made 3 (bitmap 0x80 ++ (bitmap 0x80 ++ bitmap 0)) [] [] refl refl (omega arith) three-maps;
+    }
+
+counted-105 : Item house 48 (0x31 ∷ 0x30 ∷ 0x35 ∷ []) (replicate 105 0x41)
+unfolding house houseRows tableOf between number
+counted-105 =
+    record { width = refl; digits = refl; fixed = λ h. absurd (omega (arith, h)); spelt = λ _. refl; allowed = omega arith; text = λ _. refl }
+
+fixed-192 : Item house 192 [] (replicate 7 0 ++ (0xFF ∷ []))
+unfolding house houseRows tableOf between
+fixed-192 =
+    record {
+      width = refl;
+      digits = refl;
+      fixed = λ _. refl;
+      spelt = λ h. absurd (h refl);
+      allowed = omega arith;
+      text = λ h. absurd (false-true (sym h));
+    }
+
+fixed-39 : Item house 39 [] (0x00 ∷ 0x7F ∷ [])
+unfolding house houseRows tableOf between
+fixed-39 = record { width = refl; digits = refl; fixed = λ _. refl; spelt = λ h. absurd (h refl); allowed = omega arith; text = λ _. refl }
+
+fixed-49 : Item house 49 [] (0x38 ∷ 0x34 ∷ 0x30 ∷ [])
+unfolding house houseRows tableOf between
+fixed-49 = record { width = refl; digits = refl; fixed = λ _. refl; spelt = λ h. absurd (h refl); allowed = omega arith; text = λ _. refl }
+
+fields-48-49 : Fields house 12 (fieldsOf (0 ∷ 0 ∷ 0 ∷ 0 ∷ 0 ∷ 0x01 ∷ 0x80 ∷ 0 ∷ []) 1) (0x31 ∷ 0x30 ∷ 0x35 ∷ (replicate 105 0x41 ++ (0x38 ∷ 0x34 ∷ 0x30 ∷ []))) (entry 48 15 105 ∷ entry 49 120 3 ∷ [])
+unfolding fieldsOf fieldsFrom hasField isField between bitOf
+fields-48-49 =
+    more (0x31 ∷ 0x30 ∷ 0x35 ∷ []) (replicate 105 0x41) (0x38 ∷ 0x34 ∷ 0x30 ∷ []) counted-105 refl (more [] (0x38 ∷ 0x34 ∷ 0x30 ∷ []) [] fixed-49 refl none)
+
+field-192 : Fields house 28 (fieldsOf (bitmap 0x80 ++ (bitmap 0x80 ++ (replicate 7 0 ++ (0x01 ∷ [])))) 3) (replicate 7 0 ++ (0xFF ∷ [])) (entry 192 28 8 ∷ [])
+unfolding fieldsOf fieldsFrom hasField isField between bitOf
+field-192 = more [] (replicate 7 0 ++ (0xFF ∷ [])) [] fixed-192 refl none
+
+field-39 : Fields house 12 (fieldsOf (0 ∷ 0 ∷ 0 ∷ 0 ∷ 0x02 ∷ 0 ∷ 0 ∷ 0 ∷ []) 1) (0x00 ∷ 0x7F ∷ []) (entry 39 12 2 ∷ [])
+unfolding fieldsOf fieldsFrom hasField isField between bitOf
+field-39 = more [] (0x00 ∷ 0x7F ∷ []) [] fixed-39 refl none
+
+pub other-messages : OtherMessages
+unfolding countOf bitOf
+other-messages =
+    record {
+      two-fields = made 1 (0 ∷ 0 ∷ 0 ∷ 0 ∷ 0 ∷ 0x01 ∷ 0x80 ∷ 0 ∷ []) _ _ refl refl (omega arith) fields-48-49;
+      binary-ends = made 3 (bitmap 0x80 ++ (bitmap 0x80 ++ (replicate 7 0 ++ (0x01 ∷ [])))) _ _ refl refl (omega arith) field-192;
+      text-ends = made 1 (0 ∷ 0 ∷ 0 ∷ 0 ∷ 0x02 ∷ 0 ∷ 0 ∷ 0 ∷ []) _ _ refl refl (omega arith) field-39;
     }

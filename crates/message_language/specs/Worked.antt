@@ -4,7 +4,10 @@
 --   bitmap b         == a bitmap of the byte b and seven zeros
 --   reading m es     == the reading of a message with that MTI, m bitmaps and the entries es
 --   WorkedMessages   == cases 1 to 4 and 6 to 8, where 01 says that they are accepted
+--   OtherMessages    == messages that 01's rules allow and none of its cases shows: two fields, three length digits, the last field of all,
+--                       and the first and the last byte that text and binary contents may hold
 --
+-- What 01 refuses, and text with the byte behind the last, is in worked_table/specs/Refused.antt.
 -- proofs/Worked.antt proves it. Assumes nothing: these are definitions.
 use Prim.Native.Nat.{ℕ}
 use mathlib.Core.List.{List, [], _∷_, _++_}
@@ -37,3 +40,15 @@ pub record WorkedMessages : Type 0 where
   pub case-7 : Message house 3 (mti ++ (bitmap 0x80 ++ (bitmap 4 ++ (0x33 ∷ 0x30 ∷ 0x31 ∷ [])))) (reading 2 (entry 70 20 3 ∷ []))
   -- 8: "two bitmaps 80 + 7 zeros each, then 8 zeros: used 28, three bitmaps"
   pub case-8 : Message house 3 (mti ++ (bitmap 0x80 ++ (bitmap 0x80 ++ bitmap 0))) (reading 3 [])
+
+pub record OtherMessages : Type 0 where
+  -- "then the fields in rising number": field 48 with the length digits `105`, then field 49
+  pub two-fields :
+      Message house 3 (mti ++ ((0 ∷ 0 ∷ 0 ∷ 0 ∷ 0 ∷ 0x01 ∷ 0x80 ∷ 0 ∷ []) ++ (0x31 ∷ 0x30 ∷ 0x35 ∷ (replicate 105 0x41 ++ (0x38 ∷ 0x34 ∷ 0x30 ∷ [])))))
+      (reading 1 (entry 48 15 105 ∷ entry 49 120 3 ∷ []))
+  -- "binary is any bytes": field 192, the last bit of the third bitmap
+  pub binary-ends :
+      Message house 3 (mti ++ ((bitmap 0x80 ++ (bitmap 0x80 ++ (replicate 7 0 ++ (0x01 ∷ [])))) ++ (replicate 7 0 ++ (0xFF ∷ []))))
+      (reading 3 (entry 192 28 8 ∷ []))
+  -- "text is any bytes up to 0x7F": field 39, whatever its class
+  pub text-ends : Message house 3 (mti ++ ((0 ∷ 0 ∷ 0 ∷ 0 ∷ 0x02 ∷ 0 ∷ 0 ∷ 0 ∷ []) ++ (0x00 ∷ 0x7F ∷ []))) (reading 1 (entry 39 12 2 ∷ []))

@@ -19,7 +19,7 @@ use Rattle.message_notes.specs.Dialect.{dialect, notesRoom}
 use Rattle.message_reader.specs.declared.ReadAnswer.the-variants.{Refused}
 use Rattle.message_reader.specs.Reader.{headRead, readFields, readBody, readMessage, readAnswer}
 use Rattle.message_reader.proofs.Demand3.{house-reads}
-use Rattle.worked_table.specs.Refused.{RefusedMessages}
+use Rattle.worked_table.specs.Refused.{RefusedMessages, RefusedText}
 
 abbrev blank : List ℕ
 blank = replicate (notesRoom (dialect house)) 0
@@ -39,3 +39,7 @@ refused-messages =
       case-6 = begins-none _ (refusal 4 0 12) refl;
       case-9 = begins-none _ (refusal 2 0 0) refl;
     }
+
+pub refused-text : RefusedText
+unfolding readAnswer between number house houseRows tableOf lengthOf readSized readItem readField bitOf isField hasField fieldsFrom fieldsOf bitmapsRead headRead readFields mapsOf readBody readMessage
+refused-text = record { text-over = begins-none _ (refusal 8 39 12) refl }

@@ -1,6 +1,7 @@
 -- 01's worked messages that are refused begin no message of the language, whatever its length and its reading.
 --
 --   RefusedMessages  == cases 4 to 6 and 9, where 01 says that they are refused
+--   RefusedText      == `text-ends` of `OtherMessages` with the byte behind the last that text may hold
 --
 -- The accepted ones are in message_language/specs/Worked.antt. proofs/Refused.antt proves this. Assumes nothing: this is a statement.
 use Prim.Native.Nat.{ℕ}
@@ -20,3 +21,7 @@ pub record RefusedMessages : Type 0 where
   pub case-6 : (u : ℕ) (r : Reading) → Begins house (dialect house .most) (mti ++ bitmap 0x80) u r → ⊥
   -- 9: "eleven bytes"
   pub case-9 : (u : ℕ) (r : Reading) → Begins house (dialect house .most) (mti ++ replicate 7 0) u r → ⊥
+
+-- 01: "text is any bytes up to 0x7F"
+pub record RefusedText : Type 0 where
+  pub text-over : (u : ℕ) (r : Reading) → Begins house (dialect house .most) (mti ++ ((0 ∷ 0 ∷ 0 ∷ 0 ∷ 0x02 ∷ 0 ∷ 0 ∷ 0 ∷ []) ++ (0x00 ∷ 0x80 ∷ []))) u r → ⊥
