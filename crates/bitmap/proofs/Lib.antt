@@ -4,3 +4,4 @@ pub mod Fields
 pub mod Maps
 pub mod Sets
 pub mod Listed
+pub mod Present

@@ -1,2 +1,3 @@
 pub mod Bitmaps
 pub mod Bits
+pub mod Present
