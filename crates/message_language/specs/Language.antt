@@ -9,6 +9,25 @@
 --   Message t m bs r      == the bytes bs are a message with the reading r and at most m bitmaps (01: three)
 --   Begins t m s u r      == the input s begins with such a message, u bytes long
 --
+-- The reader's definition (message_reader/specs/Reader.antt) is not named here, but some definitions stand under both. A slip in one of them
+-- would be in both alike, so each is held to 01 by something else as well. Cases are 01's (`WorkedMessages` in Worked.antt where accepted,
+-- `RefusedMessages` in worked_table/specs/Refused.antt where refused).
+--
+--   the table   == 01's rows (field_table/specs/House.antt): one for each field, none for another number (proofs/Table.antt)
+--   isBinary    == a line for each class; 0xFF in a field of class b is accepted (`binary-ends` of `OtherMessages`), 0x80 in one of class an
+--                  refused (`RefusedText` in worked_table)
+--   isAscii     == a range, of which 0x00 and 0x7F are shown to be in it (`text-ends` of `OtherMessages`) and 0x80 not (`RefusedText`)
+--   isDigit     == a range, of which `0` and `9` are shown to be in it (cases 3 and 4), and `+` not (case 5). Were any other byte a digit, exact
+--                  writing would not give back the length digits read (`GivesBack` in round_trip/specs/RoundTrip.antt)
+--   decimalOf   == it reads back each number that `decimal` spells (`number-digits` in octets/proofs/Numbers.antt); `19` in case 4, `105` in
+--                  `two-fields` of `OtherMessages`
+--   bitOf       == the bytes that are made of its bits, the first the highest, are the bytes themselves (`bytes-of-bits` in
+--                  bitmap/proofs/Bits.antt); bits 1, 2, 3, 65 and 70 in cases 2, 3, 6, 7 and 8, and 39, 48, 49 and 192 in `OtherMessages`
+--   fieldsOf    == exactly the fields whose bits are set, rising, each once (`ListsPresent` in bitmap/specs/Present.antt)
+--
+-- `countOf` is the language's alone: the reader finds one bitmap after the other (`bitmapsRead` in bitmap_read/specs/Found.antt). The types
+-- Entry and Reading are the reader's too.
+--
 -- Lists stand for the bytes of a slice; that each is below 256 is not asked again here, since no slice holds another number.
 -- Assumes nothing: these are definitions.
 use Prim.Native.Nat.{ℕ, _+_, _*_, _≤_}
