@@ -16,7 +16,7 @@ use Rattle.octets.proofs.Tables.{below, at, passed-left, passed-right}
 use Rattle.octets.proofs.Lists.{placed-done}
 use Rattle.octets.proofs.Parts.{part-rest, Written, written-none, written-room, written-byte, written-more, written-end}
 use Rattle.bitmap.specs.Bits.{bitIn, bitOf}
-use Rattle.bitmap.specs.Bitmaps.{isField, hasField, fieldsFrom, fieldsOf, chain, unchained, numbersIn}
+use Rattle.bitmap.specs.Bitmaps.{isField, hasField, fieldsFrom, fieldsOf, chain, unchained, bitNumbers}
 use Rattle.bitmap.proofs.Fields.{fields-most, fields-split, fields-past}
 use Rattle.bitmap.proofs.Maps.{field-not-65}
 use Rattle.bitmap.proofs.ByBits.{bit-on, bit-off}
@@ -69,40 +69,40 @@ module _ (x : ℕ) (small : x < 256) (some : x ≡ 0 → ⊥) where
         within = leb→le (worth x) x (checked (λ y. leb (worth y) y) tt);
       }
 
-  numbers-more : (f : ℕ) → numbersIn x f ≡ (f + first x) ∷ numbersIn (others x) f
-  unfolding numbersIn fieldsFrom leadingZeros same-list
+  numbers-more : (f : ℕ) → bitNumbers x f ≡ (f + first x) ∷ bitNumbers (others x) f
+  unfolding bitNumbers fieldsFrom leadingZeros same-list
   numbers-more f =
       ap (map (λ i. f + i))
       (same (fieldsFrom (bitIn x) 8 0) (first x ∷ fieldsFrom (bitIn (others x)) 8 0)
       (checked (λ y. same-list (fieldsFrom (bitIn y) 8 0) (first y ∷ fieldsFrom (bitIn (others y)) 8 0)) tt))
 
-numbers-none : (x f : ℕ) → x ≡ 0 → numbersIn x f ≡ []
-unfolding numbersIn fieldsFrom
+numbers-none : (x f : ℕ) → x ≡ 0 → bitNumbers x f ≡ []
+unfolding bitNumbers fieldsFrom
 numbers-none x f z = rw z
 
-numbers-few : (x f : ℕ) → length (numbersIn x f) ≤ 8
-unfolding numbersIn
+numbers-few : (x f : ℕ) → length (bitNumbers x f) ≤ 8
+unfolding bitNumbers
 numbers-few x f = omega (arith, length-map (fieldsFrom (bitIn x) 8 0) (λ i. f + i), fields-most (bitIn x) 8 0)
 
 -- The loop over the set bits of b, with n of their numbers written and the bits in rest still to come; d is the output as it was, o as it is now.
 pub record Listing (b f : ℕ) (d o : List ℕ) (rest n : ℕ) : Type 0 where
   pub small : rest < 256
-  pub written : Written (numbersIn b f) d o (numbersIn rest f) n
+  pub written : Written (bitNumbers b f) d o (bitNumbers rest f) n
 
 pub listing-none : (b f w : ℕ) (d : List ℕ) → w < 256 → w ≡ b → Listing b f d d w 0
-listing-none b f w d h e = record { small = h; written = rw e (written-none (numbersIn b f) d) }
+listing-none b f w d h e = record { small = h; written = rw e (written-none (bitNumbers b f) d) }
 
 module _ (b f : ℕ) (d o : List ℕ) (rest n : ℕ) (c : Listing b f d o rest n) where
-  pub listing-end : 8 ≤ length d → rest ≡ 0 → (n ≡ length (numbersIn b f)) × (o ≡ placed (numbersIn b f) d)
+  pub listing-end : 8 ≤ length d → rest ≡ 0 → (n ≡ length (bitNumbers b f)) × (o ≡ placed (bitNumbers b f) d)
   listing-end room z =
-      let e = written-end (numbersIn b f) d o (numbersIn rest f) n (c .written) (numbers-none rest f z) in
-      (e .0, placed-done (numbersIn b f) d (length (numbersIn b f)) refl o (omega (arith, numbers-few b f)) (e .1))
+      let e = written-end (bitNumbers b f) d o (bitNumbers rest f) n (c .written) (numbers-none rest f z) in
+      (e .0, placed-done (bitNumbers b f) d (length (bitNumbers b f)) refl o (omega (arith, numbers-few b f)) (e .1))
 
   module _ (some : rest ≡ 0 → ⊥) (room : 8 ≤ length d) where
     listing-room : n < 8
     listing-room =
         let e = ap length (numbers-more rest (c .small) some f) in
-        omega (arith, numbers-few b f, written-room (numbersIn b f) d o (numbersIn rest f) n (c .written))
+        omega (arith, numbers-few b f, written-room (bitNumbers b f) d o (bitNumbers rest f) n (c .written))
 
     pub listing-fits : n < length o
     listing-fits = omega (arith, listing-room, c .written .size)
@@ -111,7 +111,7 @@ module _ (b f : ℕ) (d o : List ℕ) (rest n : ℕ) (c : Listing b f d o rest n
     listing-more =
         record {
           small = omega (arith, c .small);
-          written = written-byte (numbersIn b f) d o (numbersIn (others rest) f) n (f + first rest) (rw (numbers-more rest (c .small) some f) at (c .written)) listing-fits;
+          written = written-byte (bitNumbers b f) d o (bitNumbers (others rest) f) n (f + first rest) (rw (numbers-more rest (c .small) some f) at (c .written)) listing-fits;
         }
 
 -- The fields among the bits of byte i are the numbers of its set bits without 1 and 65.
@@ -156,14 +156,14 @@ module _ (s : List ℕ) where
   abbrev pub left : ℕ → List ℕ
   left i = fieldsFrom (hasField s) (192 - 8 * i) (8 * i + 1)
 
-  fields-byte : (i : ℕ) → i < 24 → fieldsFrom (hasField s) 8 (8 * i + 1) ≡ numbersIn (unchained i (getD s i 0)) (8 * i + 1)
-  unfolding numbersIn hasField
+  fields-byte : (i : ℕ) → i < 24 → fieldsFrom (hasField s) 8 (8 * i + 1) ≡ bitNumbers (unchained i (getD s i 0)) (8 * i + 1)
+  unfolding bitNumbers hasField
   fields-byte i h =
       ap (fieldsFrom (hasField s) 8) (sym (add-zero (8 * i + 1)))
       ∙ fields-placed (hasField s) (bitIn (unchained i (getD s i 0))) (8 * i + 1) 8 0
       (λ j l u. ap (both (isField (8 * i + 1 + j))) (bit-at s i j u) ∙ unchained-bit i j (getD s i 0) h u)
 
-  left-more : (i x : ℕ) → i < 24 → x ≡ unchained i (getD s i 0) → left i ≡ numbersIn x (8 * i + 1) ++ left (i + 1)
+  left-more : (i x : ℕ) → i < 24 → x ≡ unchained i (getD s i 0) → left i ≡ bitNumbers x (8 * i + 1) ++ left (i + 1)
   left-more i x h e =
       let n : 192 - 8 * i ≡ 8 + (192 - 8 * (i + 1)) = omega arith in
       let f : 8 * i + 1 + 8 ≡ 8 * (i + 1) + 1 = omega arith in
@@ -222,17 +222,17 @@ module _ (s o : List ℕ) (i n : ℕ) (c : Filling s o i n) where
         let z : 192 - n ≡ length o - n = omega (arith, filling-size) in
         rw (z, part-rest n o) (omega (arith, filling-room, filling-size, length-drop n o))
 
-    pub filling-sum : (x k : ℕ) → k ≡ length (numbersIn x (8 * i + 1)) → n + k ≤ 192
+    pub filling-sum : (x k : ℕ) → k ≡ length (bitNumbers x (8 * i + 1)) → n + k ≤ 192
     filling-sum x k h = omega (arith, filling-room, numbers-few x (8 * i + 1))
 
-    pub filling-more : (x k : ℕ) (f : List ℕ) → x ≡ unchained i (getD s i 0) → k ≡ length (numbersIn x (8 * i + 1))
-        → f ≡ placed (numbersIn x (8 * i + 1)) (midOf n (192 - n) o) → Filling s (putMid n (192 - n) o f) (i + 1) (n + k)
+    pub filling-more : (x k : ℕ) (f : List ℕ) → x ≡ unchained i (getD s i 0) → k ≡ length (bitNumbers x (8 * i + 1))
+        → f ≡ placed (bitNumbers x (8 * i + 1)) (midOf n (192 - n) o) → Filling s (putMid n (192 - n) o f) (i + 1) (n + k)
     filling-more x k f hx hk hf =
         let z : 192 - n ≡ length o - n = omega (arith, filling-size) in
         record {
           early = omega arith;
           written =
-              rw z (written-more (fieldsOf s 3) (replicate 192 0) o (left s i) (numbersIn x (8 * i + 1)) (left s (i + 1)) f n k
+              rw z (written-more (fieldsOf s 3) (replicate 192 0) o (left s i) (bitNumbers x (8 * i + 1)) (left s (i + 1)) f n k
               (c .written) (left-more s i x (omega arith) hx) (sym hk) (omega (arith, filling-size, filling-sum x k hk)) (rw z at hf));
         }
 

@@ -16,7 +16,7 @@
 --   mapByte m i x     == byte i of them, made from the byte x of the set
 --   mapsFrom m s k i  == k bytes of them, from byte i on
 --   unchained i x     == byte i of bitmaps, x, without bits 1 and 65, which are no fields
---   numbersIn x f     == the numbers of the bits set in the byte x, whose high bit is number f, rising
+--   bitNumbers x f    == the numbers of the bits set in the byte x, whose high bit is number f, rising
 --
 -- Assumes nothing: these are definitions.
 use Prim.Native.Nat.{ℕ, zero, suc, _+_, _-_, _*_, _/_, _%_}
@@ -88,5 +88,5 @@ mapsFrom m s (suc k) i = mapByte m i (getD s i 0) ∷ mapsFrom m s k (suc i)
 unfoldable pub unchained : ℕ → ℕ → ℕ
 unchained i x = cond (eqb i 0) (chain false x) (cond (eqb i 8) (chain false x) x)
 
-unfoldable pub numbersIn : ℕ → ℕ → List ℕ
-numbersIn x f = map (λ i. f + i) (fieldsFrom (bitIn x) 8 0)
+unfoldable pub bitNumbers : ℕ → ℕ → List ℕ
+bitNumbers x f = map (λ i. f + i) (fieldsFrom (bitIn x) 8 0)

@@ -5,7 +5,7 @@ ghost use mathlib.Core.Bool.{true};
 ghost use lib.ListN.{length, replicate};
 ghost use Rattle.octets.specs.Lists.{all, between, lay, placed};
 ghost use Rattle.bitmap.specs.Bits.{bitOf, withBit};
-ghost use Rattle.bitmap.specs.Bitmaps.{isField, hasField, fieldsOf, unchained, numbersIn, noFields, withField, chain, mapByte, mapsFrom, mapsFor};
+ghost use Rattle.bitmap.specs.Bitmaps.{isField, hasField, fieldsOf, unchained, bitNumbers, noFields, withField, chain, mapByte, mapsFrom, mapsFor};
 
 // A set of fields, as 24 bytes of bits placed as in the bitmaps.
 pub struct FieldSet {
@@ -160,8 +160,8 @@ fn unchain(at: usize, b: u8) -> u8
 fn list_bits(b: u8, first: usize, numbers: &mut [u8]) -> usize
     requires { ⌜ first ≤ 248 ⌝ }
     requires { ⌜ 8 ≤ length (now numbers) ⌝ }
-    ensures count { λ r. ⌜ r ≡ length (numbersIn b first) ⌝ }
-    ensures writes { λ _. ⌜ now (numbers .exit) ≡ placed (numbersIn b first) (now (numbers .entry)) ⌝ }
+    ensures count { λ r. ⌜ r ≡ length (bitNumbers b first) ⌝ }
+    ensures writes { λ _. ⌜ now (numbers .exit) ≡ placed (bitNumbers b first) (now (numbers .entry)) ⌝ }
 {
     let mut rest = octets::wide(b);
     let mut n: usize = 0;
