@@ -1,2 +1,3 @@
+pub mod Behind
 pub mod Present
 pub mod Required

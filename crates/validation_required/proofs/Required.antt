@@ -124,9 +124,9 @@ module _ (p : ℕ → Bool) (m : List ℕ) (response : Bool) (response-is : resp
     all-there u = rw (← response-is, not-false response h, ← a-is, not-false a u)
 
 -- The fields that are asked for are fields.
-are-fields : (m : List ℕ) → all isField (requiredBy m) ≡ true
+pub required-fields : (m : List ℕ) → all isField (requiredBy m) ≡ true
 unfolding requiredBy requiredMore requiredOfResponse isField between
-are-fields m =
+required-fields m =
     by-bool (isCardRequest m)
     (λ y. by-bool (isResponse m) (λ z. rw (y, z)) (λ z. rw (y, z)))
     (λ y. by-bool (isResponse m) (λ z. rw (y, z)) (λ z. rw (y, z)))
@@ -156,7 +156,7 @@ module _ (d : Dialect) (v n : List ℕ) (w : Walked) (e : w ≡ walked d (within
           ap (λ (m : List ℕ). firstMissing (hasField s) (requiredBy m)) is-mti
           ∙ same-missing (hasField s) (isPresent d v n)
           (λ f z. ap (λ (x : List ℕ). hasField x f) is-gathered ∙ has-present d v n at u ended f z)
-          (requiredBy (mtiIn n)) (are-fields (mtiIn n))
+          (requiredBy (mtiIn n)) (required-fields (mtiIn n))
 
       pub required-walked : (f : ℕ) → f ≡ firstMissing (hasField s) (requiredBy mti) → (c : Checked) → c ≡ missingAnswer f → c ≡ requiredIn d v n
       unfolding requiredIn requiredAfter
