@@ -1,4 +1,4 @@
-// Runs the till program's report on the stored inputs that its arguments name. Each prints its name and then the report's lines.
+// Runs what the till program runs, on the stored inputs that its arguments name. Each prints its name and then the report's lines.
 use libc::STDOUT_FILENO;
 
 fn main() {
@@ -22,23 +22,8 @@ fn run(i: usize) {
     }
     print(name);
     print(b"\n");
-    print_report(file);
+    till_report::print_report(file);
     libc::close(file);
-}
-
-fn print_report(file: i32) {
-    let mut input = [0u8; till_lines::INPUT_ROOM];
-    let n = io::read_full(file, &mut input);
-    let mut text = [0u8; till_lines::TEXT_ROOM];
-    let length = till_lines::report(&input[..n], &mut text);
-    print_front(&text, length);
-}
-
-fn print_front(text: &[u8], n: usize) {
-    if text.len() < n {
-        return;
-    }
-    print(&text[0..n]);
 }
 
 fn print(text: &[u8]) {
