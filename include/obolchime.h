@@ -140,7 +140,7 @@ struct obol_checked obol_check_field(size_t number, const uint8_t *content, size
 struct obol_checked obol_check_required(const uint8_t *values, size_t values_length, const uint8_t *notes, size_t notes_length);
 
 /*
- * Whether a content is a PAN: of the digits in it, whatever stands between them, there are 13 to 19 and Luhn's sum is a multiple of
+ * Whether a content is a PAN: of the digits in it, whatever stands between them, there are 12 to 19 and Luhn's sum is a multiple of
  * 10. Else 17, with field 0.
  */
 struct obol_checked obol_check_pan(const uint8_t *content, size_t content_length);

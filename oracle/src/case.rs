@@ -139,15 +139,18 @@ impl Case {
         }
     }
 
-    /// Whether 01's domain of equality holds the case; docs/DECISIONS.md D1 to D5 say how its words are read.
+    /// Whether 01's domain of equality holds the case; docs/DECISIONS.md D1 to D6 say how its words are read.
     pub fn in_domain(&self, domain: &Domain) -> bool {
         match self {
             Case::Read(message) | Case::LookUp(message) => readable(message, &domain.reading),
             Case::Clean(c) => writable(c, &domain.cleaning, false),
             Case::Exact(c) => writable(c, &domain.cleaning, true),
-            Case::Pan(content) => is_utf8(content),
+            Case::Pan(content) => is_utf8(content) && !has_twelve_digits(content),
             Case::Class(number, content) => domain.class.contains(number) && is_utf8(content),
-            Case::Field(number, content) => domain.class.contains(number) && domain.cleaning.contains(number) && is_utf8(content),
+            Case::Field(number, content) => {
+                let compared = domain.class.contains(number) && domain.cleaning.contains(number) && is_utf8(content);
+                compared && (*number != 2 || !has_twelve_digits(content))
+            }
             Case::Date(content) | Case::Time(content) => content.is_ascii() && !content.contains(&b'+'),
             Case::Required(c) => are_digits(&c.mti),
             Case::LengthEncode(length, digits, _) => matches!(digits, 2 | 3) && *length < 10u64.pow(*digits as u32),
@@ -165,6 +168,11 @@ impl Case {
 
 fn is_utf8(content: &[u8]) -> bool {
     std::str::from_utf8(content).is_ok()
+}
+
+/// 02, P1: a PAN of twelve digits is taken here and not there.
+fn has_twelve_digits(content: &[u8]) -> bool {
+    content.iter().filter(|b| b.is_ascii_digit()).count() == 12
 }
 
 fn are_digits(bytes: &[u8]) -> bool {

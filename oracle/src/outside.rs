@@ -22,6 +22,7 @@ pub fn run(domain: &Domain) -> usize {
     writing(&mut list);
     validation(&mut list);
     binary_values(&mut list);
+    amended(&mut list);
     println!("{} run outside the domain, {} not as listed", list.count, list.wrong);
     list.wrong
 }
@@ -395,6 +396,12 @@ fn binary_values(list: &mut List) {
     binary("field 4 `000000000000`", 4, b"000000000000", "refused 18 field 4 at 0");
     let refused = (1..=128).filter(|f| both(*f, &[0xFF; 1000]).is_err()).count();
     list.alone("Validation 9", "fields 1 to 128, each with 1,000 bytes FF as binary", "there", format!("{refused} refused"), "0 refused");
+}
+
+/// What document 02 has amended.
+fn amended(list: &mut List) {
+    list.case("Validation 10", Case::Pan(b"000000000000".to_vec()), "good", "no");
+    list.case("Validation 10", Case::Field(2, b"000000000000".to_vec()), "good", "Luhn check failed for PAN");
 }
 
 fn exact(values: &[u8], notes: &[u8]) -> Vec<u8> {

@@ -40,13 +40,14 @@ pub fn required(values: &[u8], notes: &[u8]) -> Result<(), Refusal> {
     judged(answer, if missing { Within::Nothing } else { Within::Notes })
 }
 
-/// Whether a content is a PAN: of the digits in it, whatever stands between them, there are 13 to 19, and Luhn's sum is a multiple of
+/// Whether a content is a PAN: of the digits in it, whatever stands between them, there are 12 to 19, and Luhn's sum is a multiple of
 /// 10. Else 17.
 ///
 /// ```
 /// use obolchime::check;
 ///
 /// assert!(check::pan(b"4111 1111 1111 1111").is_ok());
+/// assert!(check::pan(b"501234567896").is_ok());
 /// assert_eq!(check::pan(b"4111111111111112").unwrap_err().to_string(), "PAN check fails (17)");
 /// ```
 pub fn pan(content: &[u8]) -> Result<(), Refusal> {

@@ -1,5 +1,6 @@
 -- The check of a primary account number (PAN). 01: "drop every non-digit byte; 13 to 19 digits must remain; from the right, double each
--- second digit, less 9 when over 9; the sum is a multiple of 10" (Luhn's formula).
+-- second digit, less 9 when over 9; the sum is a multiple of 10" (Luhn's formula). 02, P1: "The PAN check shall take 12 to 19 digits, the
+-- sum rule unchanged."
 --
 --   digitsIn s       == the digits that remain of s when every byte that is none is dropped, as the numbers 0 to 9
 --   doubled d        == twice d, less 9 when that is over 9
@@ -39,7 +40,7 @@ unfoldable pub luhnSum : List ℕ → ℕ
 luhnSum ds = weighed false (reverse ds)
 
 abbrev pub leastDigits : ℕ
-leastDigits = 13
+leastDigits = 12
 
 abbrev pub mostDigits : ℕ
 mostDigits = 19

@@ -7,7 +7,7 @@ ghost use Rattle.refusal.specs.Refusals.{checked, toldChecked};
 ghost use Rattle.validation_pan.specs.Pan.{digitsIn, worth, luhnSum, isPan, panFault};
 
 // How many digits a PAN has, at least and at most.
-const LEAST_DIGITS: usize = 13;
+const LEAST_DIGITS: usize = 12;
 
 const MOST_DIGITS: usize = 19;
 
