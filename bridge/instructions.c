@@ -53,6 +53,7 @@ static void lay_table(void) {
         }
     }
     table[52].binary = 1;
+    table[55].binary = 1;
 }
 
 static void add_field(int number, int size) {
@@ -60,7 +61,8 @@ static void add_field(int number, int size) {
     if (table[number].digits != 0) {
         message_size += (size_t)sprintf((char *)message + message_size, "%0*d", table[number].digits, size);
     }
-    memset(message + message_size, table[number].binary ? 0xA5 : '1', (size_t)size);
+    /* field 55 holds text, since it is no binary field in the Rust crate */
+    memset(message + message_size, number == 52 ? 0xA5 : '1', (size_t)size);
     message_size += (size_t)size;
 }
 

@@ -88,20 +88,21 @@ fn all() -> Vec<Work> {
     all
 }
 
-/// A short message, a purchase with twelve fields, and one with every field on which reading is compared, each as long as it can be.
+/// A short message, a purchase with twelve fields, and one with every field on which reading is compared and with field 55, each as long as it
+/// can be. Field 55 is binary here and text there, so it holds text.
 fn messages() -> Vec<(&'static str, Contents)> {
     let of = |mti: &[u8; 4], fields: &[u8]| {
         let whole = |f: &u8| {
             let r = row(*f).unwrap();
             let n = if *f == 2 && fields.len() < 20 { 16 } else { r.most };
-            (*f, vec![if r.class == Class::B { 0xA5 } else { b'1' }; n])
+            (*f, vec![if r.class == Class::B && *f != 55 { 0xA5 } else { b'1' }; n])
         };
         Contents { mti: *mti, fields: fields.iter().map(whole).collect() }
     };
     vec![
         ("short", of(b"0800", &[7, 11])),
         ("typical", of(b"0200", &[2, 3, 4, 7, 11, 12, 13, 22, 25, 37, 41, 42])),
-        ("long", of(b"0200", &Domain::of_the_crate().reading)),
+        ("long", of(b"0200", &[&Domain::of_the_crate().reading[..], &[55]].concat())),
     ]
 }
 

@@ -188,7 +188,7 @@ fn fields(list: &mut List) {
         "the entry of 64: Binary Fixed(8)",
     );
     let others = ranges(&Domain::disagreeing());
-    let shifted = "28-31, 56-64, 66-88, 90-104, 116-118, 120, 128";
+    let shifted = "28-31, 55-64, 66-88, 90-104, 116-118, 120, 128";
     list.alone("Field 1", "fields not of 01's length kind, length and nature", "there", others, shifted);
     list.case(
         "Field 1",
@@ -344,7 +344,7 @@ fn validation(list: &mut List) {
     let checked = |f: &u8| !there::answer(&Case::Class(*f, b"!".to_vec())).accepted();
     let (checked, unchecked): (Vec<u8>, Vec<u8>) = (2..=128).filter(not_n).partition(checked);
     let text = "fields that are an, ans, ns, z or x+n here";
-    let listed = "35, 37-48, 54-57, 93-95, 97-98, 101-127";
+    let listed = "35, 37-48, 54, 56-57, 93-95, 97-98, 101-127";
     list.alone("Validation 3", &format!("{text}, with `!`: no class is checked"), "there", ranges(&unchecked), listed);
     list.alone("Validation 3", &format!("{text}, with `!`: digits are asked for"), "there", ranges(&checked), "28-31, 34, 58-63, 91-92");
     list.case("Validation 4", Case::Class(34, b"=".to_vec()), "good", "Field must be numeric");
@@ -402,6 +402,17 @@ fn binary_values(list: &mut List) {
 fn amended(list: &mut List) {
     list.case("Validation 10", Case::Pan(b"000000000000".to_vec()), "good", "no");
     list.case("Validation 10", Case::Field(2, b"000000000000".to_vec()), "good", "Luhn check failed for PAN");
+
+    let definition = Field::from_number(55).unwrap().definition();
+    let theirs = format!("{:?} {:?}", definition.field_type, definition.length);
+    let ours = said(here::check_field(55, b"\x80"));
+    list.other("Field 8", "the definition of field 55; here the byte 80 in it", ours, theirs, "good", "AlphaNumericSpecial LLLVar(999)");
+    list.case(
+        "Message 19",
+        Case::Read(with_bits(&[55], b"001\x80")),
+        "used 16, bitmaps 1, field 55 80",
+        "Encoding error: Invalid UTF-8 in field 55: invalid utf-8 sequence of 1 bytes from index 0",
+    );
 }
 
 fn exact(values: &[u8], notes: &[u8]) -> Vec<u8> {

@@ -1,5 +1,5 @@
-//! Document 01's field table, and the fields of its domain of equality, computed from the table and from what the crate's own
-//! `definition()` answers.
+//! Document 01's field table, as 02 amends it, and the fields of its domain of equality, computed from the table and from what the crate's
+//! own `definition()` answers.
 use iso8583_core::field::{Field, FieldLength, FieldType};
 
 #[derive(Clone, Copy, PartialEq, Eq, Debug)]
@@ -39,10 +39,12 @@ const TABLE: &[(u8, u8, usize, usize, Class)] = &[
     (93, 93, 0, 5, An), (94, 94, 0, 7, An), (95, 95, 0, 42, An), (44, 44, 2, 25, An), (45, 45, 2, 76, An), (46, 48, 3, 999, An),
     (54, 54, 3, 120, An),
     // ans fixed, ans variable
-    (41, 41, 0, 8, Ans), (42, 42, 0, 15, Ans), (43, 43, 0, 40, Ans), (98, 98, 0, 25, Ans), (55, 63, 3, 999, Ans), (101, 101, 2, 17, Ans),
+    (41, 41, 0, 8, Ans), (42, 42, 0, 15, Ans), (43, 43, 0, 40, Ans), (98, 98, 0, 25, Ans), (56, 63, 3, 999, Ans), (101, 101, 2, 17, Ans),
     (102, 103, 2, 28, Ans), (104, 104, 3, 100, Ans), (105, 127, 3, 999, Ans),
     // b
     (52, 52, 0, 8, B), (64, 64, 0, 8, B), (96, 96, 0, 8, B), (128, 128, 0, 8, B), (192, 192, 0, 8, B),
+    // b by 02, P2
+    (55, 55, 3, 999, B),
     // house fields
     (129, 191, 3, 999, Ans),
 ];
@@ -76,11 +78,11 @@ impl Domain {
         (2..=128).filter(|f| *f != 65 && !agreeing(f)).collect()
     }
 
-    /// What docs/DECISIONS.md D1, D3 and D4 say these fields are.
+    /// What docs/DECISIONS.md D1, D3, D4 and D6 say these fields are.
     pub fn of_the_decisions() -> Domain {
         Domain {
-            reading: numbers(&[(2, 27), (32, 55)]),
-            cleaning: numbers(&[(2, 27), (32, 33), (35, 35), (37, 48), (52, 55), (89, 89), (105, 115), (119, 119), (121, 127)]),
+            reading: numbers(&[(2, 27), (32, 54)]),
+            cleaning: numbers(&[(2, 27), (32, 33), (35, 35), (37, 48), (52, 54), (89, 89), (105, 115), (119, 119), (121, 127)]),
             class: numbers(&[(2, 27), (32, 33), (53, 53), (66, 82), (89, 89)]),
         }
     }

@@ -1,6 +1,6 @@
--- The house table, row by row as 01's "Field table" has it (ISO 8583:1987, and the house fields 129-192).
+-- The house table, row by row as 01's "Field table" has it (ISO 8583:1987, and the house fields 129-192), as 02 amends it.
 --
---   houseRows   == 01's rows, in its order
+--   houseRows   == 01's rows, in its order; 55 by 02
 --   house       == the table that they make
 --
 -- Assumes nothing: these are definitions.
@@ -60,7 +60,7 @@ houseRows =
     fixed 42 42 15 Ans ∷
     fixed 43 43 40 Ans ∷
     fixed 98 98 25 Ans ∷
-    LLL 55 63 999 Ans ∷
+    LLL 56 63 999 Ans ∷
     LL 101 101 17 Ans ∷
     LL 102 103 28 Ans ∷
     LLL 104 104 100 Ans ∷
@@ -71,6 +71,8 @@ houseRows =
     fixed 96 96 8 B ∷
     fixed 128 128 8 B ∷
     fixed 192 192 8 B ∷
+    -- 02, P2: "Field 55 becomes binary, LLL, up to 999"
+    LLL 55 55 999 B ∷
     -- "House fields, added"
     LLL 129 191 999 Ans ∷
     []

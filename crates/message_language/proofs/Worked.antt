@@ -12,7 +12,7 @@ use Rattle.field_table.specs.House.{house, houseRows}
 use Rattle.bitmap.specs.Bits.{bitOf}
 use Rattle.bitmap.specs.Bitmaps.{isField, hasField, countOf, fieldsFrom, fieldsOf}
 use Rattle.message_language.specs.Language.{Item, Entry, entry, Fields, none, more, Message}
-use Rattle.message_language.specs.Worked.{mti, bitmap, reading, WorkedMessages, OtherMessages}
+use Rattle.message_language.specs.Worked.{mti, bitmap, reading, chip, WorkedMessages, OtherMessages}
 
 -- a message of that MTI, with these bitmaps and fields
 made : (m : ℕ) (maps body : List ℕ) (es : List Entry) → m ≡ countOf maps → length maps ≡ 8 * m → m ≤ 3 → Fields house (4 + 8 * m) (fieldsOf maps m) body es → Message house 3 (mti ++ (maps ++ body)) (reading m es)
@@ -135,6 +135,22 @@ field-39 : Fields house 12 (fieldsOf (0 ∷ 0 ∷ 0 ∷ 0 ∷ 0x02 ∷ 0 ∷ 0 �
 unfolding fieldsOf fieldsFrom hasField isField between bitOf
 field-39 = more [] (0x00 ∷ 0x7F ∷ []) [] fixed-39 refl none
 
+counted-55 : Item house 55 (0x30 ∷ 0x31 ∷ 0x31 ∷ []) chip
+unfolding house houseRows tableOf between number
+counted-55 =
+    record {
+      width = refl;
+      digits = refl;
+      fixed = λ h. absurd (omega (arith, h));
+      spelt = λ _. refl;
+      allowed = omega arith;
+      text = λ h. absurd (false-true (sym h));
+    }
+
+field-55 : Fields house 12 (fieldsOf (0 ∷ 0 ∷ 0 ∷ 0 ∷ 0 ∷ 0 ∷ 0x02 ∷ 0 ∷ []) 1) (0x30 ∷ 0x31 ∷ 0x31 ∷ chip) (entry 55 15 11 ∷ [])
+unfolding fieldsOf fieldsFrom hasField isField between bitOf
+field-55 = more (0x30 ∷ 0x31 ∷ 0x31 ∷ []) chip [] counted-55 refl none
+
 pub other-messages : OtherMessages
 unfolding countOf bitOf
 other-messages =
@@ -142,4 +158,5 @@ other-messages =
       two-fields = made 1 (0 ∷ 0 ∷ 0 ∷ 0 ∷ 0 ∷ 0x01 ∷ 0x80 ∷ 0 ∷ []) _ _ refl refl (omega arith) fields-48-49;
       binary-ends = made 3 (bitmap 0x80 ++ (bitmap 0x80 ++ (replicate 7 0 ++ (0x01 ∷ [])))) _ _ refl refl (omega arith) field-192;
       text-ends = made 1 (0 ∷ 0 ∷ 0 ∷ 0 ∷ 0x02 ∷ 0 ∷ 0 ∷ 0 ∷ []) _ _ refl refl (omega arith) field-39;
+      chip-data = made 1 (0 ∷ 0 ∷ 0 ∷ 0 ∷ 0 ∷ 0 ∷ 0x02 ∷ 0 ∷ []) _ _ refl refl (omega arith) field-55;
     }

@@ -3,9 +3,10 @@
 --   mti              == the MTI of all of them, 0800
 --   bitmap b         == a bitmap of the byte b and seven zeros
 --   reading m es     == the reading of a message with that MTI, m bitmaps and the entries es
+--   chip             == chip data: the tag 9F26, its length 8 and eight bytes, of which the first is 0xFF
 --   WorkedMessages   == cases 1 to 4 and 6 to 8, where 01 says that they are accepted
---   OtherMessages    == messages that 01's rules allow and none of its cases shows: two fields, three length digits, the last field of all,
---                       and the first and the last byte that text and binary contents may hold
+--   OtherMessages    == messages that 01's rules, and 02's, allow and none of 01's cases shows: two fields, three length digits, the last field
+--                       of all, the first and the last byte that text and binary contents may hold, and chip data
 --
 -- What 01 refuses, and text with the byte behind the last, is in worked_table/specs/Refused.antt.
 -- proofs/Worked.antt proves it. Assumes nothing: these are definitions.
@@ -41,6 +42,9 @@ pub record WorkedMessages : Type 0 where
   -- 8: "two bitmaps 80 + 7 zeros each, then 8 zeros: used 28, three bitmaps"
   pub case-8 : Message house 3 (mti ++ (bitmap 0x80 ++ (bitmap 0x80 ++ bitmap 0))) (reading 3 [])
 
+abbrev pub chip : List ℕ
+chip = 0x9F ∷ 0x26 ∷ 0x08 ∷ 0xFF ∷ 0x01 ∷ 0x02 ∷ 0x03 ∷ 0x04 ∷ 0x05 ∷ 0x06 ∷ 0x07 ∷ []
+
 pub record OtherMessages : Type 0 where
   -- "then the fields in rising number": field 48 with the length digits `105`, then field 49
   pub two-fields :
@@ -52,3 +56,7 @@ pub record OtherMessages : Type 0 where
       (reading 3 (entry 192 28 8 ∷ []))
   -- "text is any bytes up to 0x7F": field 39, whatever its class
   pub text-ends : Message house 3 (mti ++ ((0 ∷ 0 ∷ 0 ∷ 0 ∷ 0x02 ∷ 0 ∷ 0 ∷ 0 ∷ []) ++ (0x00 ∷ 0x7F ∷ []))) (reading 1 (entry 39 12 2 ∷ []))
+  -- 02, P2: "Issuers send chip data there, with bytes over 0x7F": field 55 with eleven bytes, one of them 0xFF, behind the digits `011`
+  pub chip-data :
+      Message house 3 (mti ++ ((0 ∷ 0 ∷ 0 ∷ 0 ∷ 0 ∷ 0 ∷ 0x02 ∷ 0 ∷ []) ++ (0x30 ∷ 0x31 ∷ 0x31 ∷ chip)))
+      (reading 1 (entry 55 15 11 ∷ []))

@@ -1,4 +1,5 @@
 pub mod Answers
+pub mod Binary
 pub mod Demand3
 pub mod Fields
 pub mod Heads

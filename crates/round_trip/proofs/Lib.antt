@@ -1,3 +1,4 @@
+pub mod Binary
 pub mod Cleaning
 pub mod Fields
 pub mod House

@@ -1,3 +1,4 @@
 pub mod RoundTrip
 pub mod Refusals
 pub mod House
+pub mod Binary

@@ -2,7 +2,7 @@
 use Prim.Native.Nat.{ℕ, _<_}
 use mathlib.Core.Path.{_≡_, refl, ap, _∙_}
 use mathlib.Core.Bool.{Bool, true, false, cond}
-use mathlib.Core.List.{List, _∷_}
+use mathlib.Core.List.{List, [], _∷_}
 use native.Mathlib.Omega.{arith}
 use lib.ListN.{length}
 use lib.Dec.{eqb}
@@ -15,12 +15,13 @@ use Rattle.refusal.specs.Numbers.{numberNotAllowed, classBroken, lengthNotAllow
 use Rattle.bitmap.specs.Bitmaps.{isField}
 use Rattle.field_table.specs.Table.{Table, tableOf}
 use Rattle.field_table.specs.House.{house, houseRows}
+use Rattle.field_table.specs.declared.Class.the-variants.{B}
 use Rattle.field_class.specs.Classes.{conforms}
 use Rattle.field_class.proofs.Text.{class-text}
 use Rattle.field_write.specs.Fields.{isAllowedLength}
 use Rattle.field_write.proofs.Allowed.{allowed-most, allowed-fixed-length, exact-passes}
 use Rattle.validation_field.specs.Checks.{asks, firstFailing, valueTests, fieldTests, fieldFault, isCurrency}
-use Rattle.validation_field.specs.Passing.{TakenByWriter, DecidesCurrency}
+use Rattle.validation_field.specs.Passing.{TakenByWriter, DecidesCurrency, MeasuresChip}
 
 -- number, class and length hold of a content that passes
 pub record Passes (t : Table) (f : ℕ) (s : List ℕ) : Type 0 where
@@ -78,3 +79,12 @@ decides-currency f s h =
     (λ n. by-eq f 50
     (λ e. ap (λ (g : ℕ). eqb (fieldFault house g s) 0) e ∙ at-50 s)
     (λ m. let e : f ≡ 51 = omega (arith, l, u, n, m) in ap (λ (g : ℕ). eqb (fieldFault house g s) 0) e ∙ at-51 s))
+
+-- any bytes are of class b
+binary-conforms : (s : List ℕ) → conforms B s ≡ true
+binary-conforms [] = refl
+binary-conforms (x ∷ s) = binary-conforms s
+
+pub measures-chip : MeasuresChip house
+unfolding MeasuresChip fieldFault fieldTests valueTests house houseRows tableOf isField between isAllowedLength
+measures-chip s = rw (binary-conforms s)
