@@ -1,0 +1,5 @@
+pub mod Forms
+pub mod Items
+pub mod Fields
+pub mod Messages
+pub mod Trips
