@@ -110,7 +110,7 @@ module _ (t : Table) (m : ℕ) (bs post : List ℕ) (r : Reading) (is : Message 
   says : Said t (fieldsOf (is .maps) (r .count)) (is .body) (contentsIn (bs ++ post) (r .entries))
   says =
       said t (is .fields) (r .mti ++ is .maps) post (bs ++ post) (length-append (r .mti) (is .maps) ∙ omega (arith, is .four, is .whole))
-      (ap (λ (l : List ℕ). l ++ post) (is .spelt) ∙ simp append-assoc)
+      (ap (λ (l : List ℕ). l ++ post) (is .spelt) ∙ simp append-assoc) digits
 
   pub saying-is : IsMessage t m saying
   unfolding saying

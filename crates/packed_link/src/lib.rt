@@ -23,8 +23,8 @@ pub enum Translated {
     Refused(Refusal),
 }
 
-// What judging finds: the bytes used and the bytes to be written, or the refusal.
-enum Judged {
+// What judging finds: the bytes used and the bytes to be written, or the refusal. It is open since theorems above name it.
+pub enum Judged {
     Good { used: usize, written: usize },
     Refused(Refusal),
 }

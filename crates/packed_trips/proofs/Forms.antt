@@ -51,3 +51,42 @@ packed-fields t (c ∷ cs) = rw (packed-fields t cs)
 pub packed-is : (t : Table) (p : Parts) → bytesIn Packed t p ≡ packedBytes t p
 unfolding bytesIn packedBytes speltIn
 packed-is t p = rw (packed-fields t (p .contents))
+
+-- the packed form is never longer
+shorter : (d : List ℕ) → length (speltIn Packed d) ≤ length (speltIn Plain d)
+unfolding speltIn
+shorter d = omega (arith, spelling-long Packed d, size-most Packed (length d))
+
+content-shorter : (c : Class) (x : List ℕ) → length (contentIn Packed c x) ≤ length (contentIn Plain c x)
+unfolding contentIn
+content-shorter c x = by-bool (isNumeric c) (λ y. rw y (shorter x)) (λ z. rw z (omega arith))
+
+fields-shorter : (t : Table) (cs : List Content) → length (fieldsIn Packed t cs) ≤ length (fieldsIn Plain t cs)
+unfolding fieldsIn
+fields-shorter t [] = omega arith
+fields-shorter t (c ∷ cs) =
+    let d = decimal (t .width (c .number)) (length (c .bytes)) in
+    let k = t .class (c .number) in
+    omega (
+      arith,
+      length-append (speltIn Packed d) (contentIn Packed k (c .bytes) ++ fieldsIn Packed t cs),
+      length-append (contentIn Packed k (c .bytes)) (fieldsIn Packed t cs),
+      length-append (speltIn Plain d) (contentIn Plain k (c .bytes) ++ fieldsIn Plain t cs),
+      length-append (contentIn Plain k (c .bytes)) (fieldsIn Plain t cs),
+      shorter d,
+      content-shorter k (c .bytes),
+      fields-shorter t cs,
+    )
+
+pub packed-short : (t : Table) (p : Parts) → length (bytesIn Packed t p) ≤ length (bytesIn Plain t p)
+unfolding bytesIn
+packed-short t p =
+    omega (
+      arith,
+      length-append (speltIn Packed (p .mti)) (p .maps ++ fieldsIn Packed t (p .contents)),
+      length-append (p .maps) (fieldsIn Packed t (p .contents)),
+      length-append (speltIn Plain (p .mti)) (p .maps ++ fieldsIn Plain t (p .contents)),
+      length-append (p .maps) (fieldsIn Plain t (p .contents)),
+      shorter (p .mti),
+      fields-shorter t (p .contents),
+    )

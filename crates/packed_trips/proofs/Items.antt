@@ -201,7 +201,9 @@ module _ (S : Script) (t : Table) (small : Small t) (f : ℕ) (s : List ℕ) (a 
       (λ z. empty e (l ∙ z) ∙ sym (empty (decimal (t .width f) n) (digits-length 10 48 (t .width f) n ∙ z)))
       (λ z.
       let i : n ≡ decimalOf e = g .place .is-n ∙ rw (ne-eqb (t .width f) 0 z) in
-      sym (rw (i, ← l) (digits-number 10 48 57 (omega arith) (omega arith) e (digits-are S (t .width f) (take a s) (g .place .digits)))))
+      sym
+      (ap (decimal (t .width f)) i ∙ ap (λ (x : ℕ). decimal x (decimalOf e)) (sym l)
+      ∙ digits-number 10 48 57 (omega arith) (omega arith) e (digits-are S (t .width f) (take a s) (g .place .digits))))
 
   pub item-allowed : Allowed t f c
   unfolding lengthOf
