@@ -1,6 +1,6 @@
 -- The ends of the routines for one field, with the facts as the code has them. Assumes nothing.
 use Prim.Native.Nat.{ℕ, _+_, _-_, _≤_, _<_}
-use mathlib.Core.Path.{_≡_, refl, sym, ap, _∙_}
+use mathlib.Core.Path.{_≡_, sym, ap, _∙_}
 use mathlib.Core.Bool.{Bool, true, false, cond, not}
 use mathlib.Core.List.{List}
 use native.Mathlib.Nat.{add-sub-cancel-left}
@@ -8,8 +8,8 @@ use native.Mathlib.Omega.{arith}
 use lib.Dec.{eqb, leb}
 use lib.ListN.{length, take, drop}
 use lib.Seq.{take-at}
-use borrow.Author.Tests.{lt-ltb, le-ltb, eq-eqb, ne-eqb, not-true, not-false}
-use Rattle.octets.specs.Lists.{either, all, lay}
+use borrow.Author.Tests.{lt-ltb, le-ltb, not-true, not-false}
+use Rattle.octets.specs.Lists.{all, lay}
 use Rattle.octets.specs.Numbers.{isAscii, decimalOf}
 use Rattle.octets.proofs.Cases.{by-bool}
 use Rattle.octets.proofs.Lists.{placed-fits}
@@ -26,7 +26,7 @@ use Rattle.packed_field.specs.declared.Script.the-variants.{Plain, Packe
 use Rattle.packed_field.specs.declared.Item.{Item}
 use Rattle.packed_field.specs.declared.Item.the-variants.{Found, Refused}
 use Rattle.packed_field.specs.Scripts.{other, sizeOf, isSpelt, isPart, digitsOf, speltIn, carried, carriedInto}
-use Rattle.packed_field.specs.Items.{isNumeric, contentSize, isContent, lengthFault, digitsFault, contentFault, placeSized, placeBy, placeItem, judgedAs, judgeItem}
+use Rattle.packed_field.specs.Items.{isNumeric, contentSize, isContent, lengthFault, digitsFault, contentFault, placeSized, placeBy, placeItem, judgeItem}
 use Rattle.packed_field.proofs.Scripts.{digits-long, carried-placed, size-most}
 
 -- what holds by the script that an arm names holds by the script that was given

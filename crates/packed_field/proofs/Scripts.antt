@@ -1,17 +1,17 @@
 -- Digits in either script: what is spelt is read back, and what is read is spelt so again, at any digit count. Assumes nothing.
 use Prim.Native.Nat.{ℕ, _≤_}
-use mathlib.Core.Path.{_≡_, refl, sym, ap, _∙_}
-use mathlib.Core.Bool.{Bool, true}
+use mathlib.Core.Path.{_≡_, refl, ap, _∙_}
+use mathlib.Core.Bool.{true}
 use mathlib.Core.List.{List}
 use native.Mathlib.Omega.{arith}
 use lib.Dec.{eqb}
 use lib.ListN.{length}
 use borrow.Author.Tests.{eq-eqb, eqb-true}
-use Rattle.octets.specs.Lists.{both, all, placed}
+use Rattle.octets.specs.Lists.{all, placed}
 use Rattle.octets.specs.Numbers.{isDigit, areDigits}
 use Rattle.octets.proofs.Cases.{both-left, both-right}
 use Rattle.refusal.specs.Refusals.{convertedInto}
-use Rattle.encoding_bcd.specs.Bcd.{bytesOf, packed, unpacked, encodeFault, decodeFault}
+use Rattle.encoding_bcd.specs.Bcd.{packed, encodeFault, decodeFault}
 use Rattle.encoding_bcd.proofs.Packing.{packed-length}
 use Rattle.encoding_bcd.proofs.Unpacking.{unpacked-length}
 use Rattle.encoding_bcd.proofs.Faults.{decode-clean}

@@ -3,7 +3,7 @@
 use Prim.Native.Nat.{ℕ, _+_, _*_}
 use mathlib.Core.Path.{_≡_, refl, sym, ap, _∙_}
 use mathlib.Core.Bool.{true}
-use mathlib.Core.List.{List, [], _∷_, _++_, append-assoc}
+use mathlib.Core.List.{List, _∷_, _++_, append-assoc}
 use native.Mathlib.Omega.{arith}
 use lib.ListN.{length, length-append}
 use Rattle.octets.specs.Lists.{all}
@@ -15,7 +15,7 @@ use Rattle.message_language.specs.Language.{Item, Entry, entry, Fields, none as
 use Rattle.message_contents.specs.Contents.{Content, content, contentOf, contentsIn, numbersIn, spelt, standing, readingOf}
 use Rattle.message_contents.proofs.Items.{content-at, digits-are}
 use Rattle.packed_field.specs.Items.{isNumeric}
-use Rattle.packed_language.specs.Packed.{Allowed, AllAllowed, none, more, AllDigits, Parts, IsMessage, plainBytes}
+use Rattle.packed_language.specs.Packed.{AllAllowed, none, more, AllDigits, Parts, IsMessage, plainBytes}
 
 -- What is said makes a message.
 one-field : (t : Table) (at f w : ℕ) (fs ds c rest : List ℕ) (es : List Entry) → length ds ≡ w → Item t f ds c → Fields t (at + (w + length c)) fs rest es

@@ -1,6 +1,6 @@
 -- The head of a message in either script: the ends of its reader with the facts as the code has them, and what it means that a head is read.
 -- Assumes nothing.
-use Prim.Native.Nat.{ℕ, _+_, _*_, _-_, _%_, _≤_, _<_}
+use Prim.Native.Nat.{ℕ, _+_, _*_, _-_, _≤_, _<_}
 use mathlib.Core.Path.{_≡_, refl, sym, ap, _∙_}
 use mathlib.Core.Bool.{true}
 use mathlib.Core.List.{List}
@@ -10,7 +10,7 @@ use lib.Dec.{eqb}
 use lib.ListN.{length, take, drop, length-take}
 use lib.Seq.{length-take-le, take-append-seam}
 use borrow.Author.Tests.{lt-ltb, le-ltb, eq-eqb, eqb-true}
-use Rattle.octets.specs.Lists.{both, all, lead, lay}
+use Rattle.octets.specs.Lists.{all, lead, lay}
 use Rattle.octets.specs.Numbers.{isDigit, areDigits}
 use Rattle.octets.proofs.Cases.{by-lt, both-left, both-right}
 use Rattle.octets.proofs.Lists.{lead-all, lead-most, lay-length}

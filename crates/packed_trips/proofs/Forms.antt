@@ -1,13 +1,12 @@
 -- The two forms of a message as one, over the script. Assumes nothing.
 use Prim.Native.Nat.{ℕ, _≤_}
-use mathlib.Core.Path.{_≡_, refl, ap, _∙_}
-use mathlib.Core.Bool.{true, cond}
+use mathlib.Core.Path.{_≡_, refl}
+use mathlib.Core.Bool.{cond}
 use mathlib.Core.List.{List, [], _∷_, _++_}
 use native.Mathlib.Omega.{arith}
 use lib.ListN.{length, length-append}
 use Rattle.octets.specs.Numbers.{decimal}
 use Rattle.octets.proofs.Cases.{by-bool}
-use Rattle.encoding_bcd.specs.Bcd.{packed}
 use Rattle.field_table.specs.Table.{Table}
 use Rattle.field_table.specs.declared.Class.{Class}
 use Rattle.message_contents.specs.Contents.{Content, spelt}

@@ -1,13 +1,13 @@
 -- One field: an allowed content is found in its form, whatever follows, and what is found is the form of an allowed content. Assumes nothing.
-use Prim.Native.Nat.{ℕ, _+_, _-_, _^_, _≤_, _<_}
+use Prim.Native.Nat.{ℕ, _+_, _-_, _^_, _<_}
 use mathlib.Core.Path.{_≡_, refl, sym, ap, _∙_}
-use mathlib.Core.Bool.{Bool, true, false, cond}
+use mathlib.Core.Bool.{true, false, cond}
 use mathlib.Core.List.{List, [], _∷_, _++_}
 use native.Mathlib.Omega.{arith}
 use lib.ListN.{length, take, drop, length-append, length-drop, take-append-drop}
-use lib.Seq.{length-take-le, take-at, drop-at, drop-drop, take-append-seam}
+use lib.Seq.{length-take-le, take-at, drop-at, drop-drop}
 use borrow.Author.Tests.{eq-eqb, ne-eqb}
-use Rattle.octets.specs.Lists.{between, either, all}
+use Rattle.octets.specs.Lists.{either, all}
 use Rattle.octets.specs.Numbers.{isDigit, isAscii, decimal, decimalOf}
 use Rattle.octets.proofs.Cases.{by-bool, by-eq}
 use Rattle.octets.proofs.Lists.{is-between, between-high, all-weaker}
@@ -15,13 +15,12 @@ use Rattle.octets.proofs.Numbers.{digits-length, digits-between, number-digits,
 use Rattle.field_table.specs.Table.{Table, isBinary, Small}
 use Rattle.field_table.specs.declared.Class.{Class}
 use Rattle.field_read.specs.Items.{lengthOf}
-use Rattle.message_language.specs.Language.{Item}
 use Rattle.packed_field.specs.declared.Script.{Script}
 use Rattle.packed_field.specs.declared.Item.the-variants.{Found}
 use Rattle.packed_field.specs.Scripts.{other, sizeOf, isSpelt, digitsOf, speltIn, carried}
 use Rattle.packed_field.specs.Items.{isNumeric, contentSize, isContent, judgeItem}
 use Rattle.packed_field.proofs.Scripts.{digits-long, digits-are, spelt-again, spelling-long, spelling-good, spelling-back}
-use Rattle.packed_field.proofs.Found.{Placed, Good, judges-good, good-judged}
+use Rattle.packed_field.proofs.Found.{Good, judges-good, good-judged}
 use Rattle.packed_link.specs.Link.{contentCarried, itemCarried}
 use Rattle.packed_language.specs.Packed.{Allowed}
 use Rattle.packed_trips.proofs.Forms.{contentIn}

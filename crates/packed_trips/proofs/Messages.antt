@@ -12,13 +12,13 @@ use Rattle.bitmap.specs.Bitmaps.{countOf, fieldsOf}
 use Rattle.bitmap_read.specs.declared.BitmapsRead.{BitmapsRead}
 use Rattle.bitmap_read.specs.declared.BitmapsRead.the-variants.{Count, Refused as HeadRefused}
 use Rattle.bitmap_read.specs.Found.{mapsOf}
-use Rattle.message_contents.specs.Contents.{Content, numbersIn}
+use Rattle.message_contents.specs.Contents.{numbersIn}
 use Rattle.packed_field.specs.declared.Script.{Script}
 use Rattle.packed_field.specs.Scripts.{other, sizeOf, isSpelt, digitsOf, speltIn, carried}
-use Rattle.packed_field.proofs.Scripts.{digits-long, digits-are, spelt-again, spelling-long, spelling-good, spelling-back, carried-long}
+use Rattle.packed_field.proofs.Scripts.{digits-long, digits-are, spelt-again, spelling-long, spelling-good, spelling-back}
 use Rattle.packed_link.specs.declared.Judged.{Judged}
 use Rattle.packed_link.specs.declared.Judged.the-variants.{Good, Refused as JudgedBad}
-use Rattle.packed_link.specs.Link.{linkHead, fieldsJudged, fieldsCarried, bodyJudged, bodyCarried, linkJudged, linkCarried}
+use Rattle.packed_link.specs.Link.{linkHead, fieldsJudged, bodyJudged, bodyCarried, linkJudged, linkCarried}
 use Rattle.packed_link.proofs.Fields.{carried-counted}
 use Rattle.packed_link.proofs.Heads.{Headed, head-found, head-reads}
 use Rattle.packed_language.specs.Packed.{Parts, IsMessage}

@@ -16,11 +16,10 @@ use Rattle.field_table.specs.Table.{Table, Small}
 use Rattle.field_table.specs.House.{house}
 use Rattle.field_table.proofs.Rows.{house-small}
 use Rattle.bitmap.specs.Bitmaps.{countOf}
-use Rattle.message_language.specs.Language.{Reading, Message, Begins}
-use Rattle.message_contents.specs.Contents.{Content, contentsIn, standing, readingOf}
+use Rattle.message_contents.specs.Contents.{contentsIn, readingOf}
 use Rattle.packed_field.specs.declared.Script.{Script}
 use Rattle.packed_field.specs.declared.Script.the-variants.{Plain, Packed}
-use Rattle.packed_field.specs.Scripts.{other, sizeOf}
+use Rattle.packed_field.specs.Scripts.{other}
 use Rattle.packed_link.specs.declared.Judged.{Judged}
 use Rattle.packed_link.specs.declared.Judged.the-variants.{Good, Refused as JudgedBad}
 use Rattle.packed_link.specs.declared.Translated.{Translated}
@@ -28,9 +27,9 @@ use Rattle.packed_link.specs.declared.Translated.the-variants.{Done, Refused}
 use Rattle.packed_link.specs.Link.{linkJudged, linkCarried, linkAnswer, linkOutput}
 use Rattle.packed_language.specs.Packed.{AllDigits, Parts, IsMessage, plainBytes, packedBytes, Starts}
 use Rattle.packed_language.proofs.Plain.{plain-message, plain-contents, all-digits, saying, saying-is, saying-bytes}
-use Rattle.packed_trips.specs.Trips.{Unpacked, Unpacks, PackedUp, Packs, Returns, Leaves, HouseLinks}
+use Rattle.packed_trips.specs.Trips.{Unpacks, Packs, Returns, Leaves, HouseLinks}
 use Rattle.packed_trips.proofs.Forms.{bytesIn, plain-is, packed-is, packed-short}
-use Rattle.packed_trips.proofs.Messages.{Carried, sound, judged-good, carried-is, one-message}
+use Rattle.packed_trips.proofs.Messages.{sound, judged-good, carried-is, one-message}
 
 -- An answer is what was judged, and room.
 never : (o : Translated) (r : Refusal) (u w : ℕ) → o ≡ Refused r → o ≡ Done u w → ⊥
