@@ -212,7 +212,8 @@ fn write_message(
     write_fields(input, end, fields, script, table, &mut out[behind..]);
 }
 
-// Writes the fields one behind the other, each into the rest of the output. They are known to be good, and no content is judged again.
+// Writes the fields one behind the other, each into the rest of the output. They are known to be good: none is refused here, though the BCD
+// routines test what they are handed.
 fn write_fields(
     input: &[u8],
     start: usize,
