@@ -102,9 +102,24 @@ said t {at} (more-fields {f = f} {fs = fs} {es = es} ds c rest i b x) pre post v
     let h : contentOf v (at + length ds) (length c) ≡ c = content-at pre ds c (rest ++ post) v at l j in
     rw b (said-more t f fs ds c rest (contentOf v (at + length ds) (length c)) (contentsIn v es) i h (g .0) (said t x (pre ++ (ds ++ c)) post v q (j ∙ simp append-assoc) (g .1)))
 
+stood-more : (t : Table) (at f : ℕ) (ds c d : List ℕ) (cs : List Content) (es : List Entry) → length ds ≡ t .width f → d ≡ c → standing t (at + (length ds + length c)) cs ≡ es
+    → standing t at (content f d ∷ cs) ≡ entry f (at + length ds) (length c) ∷ es
+unfolding standing
+stood-more t at f ds c d cs es w is e = rw (is, ← w, e)
+
+-- the contents of fields stand where the entries say
+stood : (t : Table) {at : ℕ} {fs bs : List ℕ} {es : List Entry} → Fields t at fs bs es → (pre post v : List ℕ) → length pre ≡ at → v ≡ pre ++ (bs ++ post) → standing t at (contentsIn v es) ≡ es
+unfolding contentsIn standing
+stood t no-fields pre post v l e = refl
+stood t {at} (more-fields {f = f} {fs = fs} {es = es} ds c rest i b x) pre post v l e =
+    let j : v ≡ pre ++ (ds ++ (c ++ (rest ++ post))) = e ∙ rw b (simp append-assoc) in
+    let q : length (pre ++ (ds ++ c)) ≡ at + (length ds + length c) = omega (arith, length-append pre (ds ++ c), length-append ds c, l) in
+    let h : contentOf v (at + length ds) (length c) ≡ c = content-at pre ds c (rest ++ post) v at l j in
+    stood-more t at f ds c (contentOf v (at + length ds) (length c)) (contentsIn v es) es (i .width) h (stood t x (pre ++ (ds ++ c)) post v q (j ∙ simp append-assoc))
+
 -- m bitmaps at most, whatever follows
 module _ (t : Table) (m : ℕ) (bs post : List ℕ) (r : Reading) (is : Message t m bs r) (digits : AllDigits t (contentsIn (bs ++ post) (r .entries))) where
-  pub saying : Parts
+  unfoldable pub saying : Parts
   saying = record { mti = r .mti; maps = is .maps; contents = contentsIn (bs ++ post) (r .entries) }
 
   says : Said t (fieldsOf (is .maps) (r .count)) (is .body) (contentsIn (bs ++ post) (r .entries))
@@ -127,3 +142,11 @@ module _ (t : Table) (m : ℕ) (bs post : List ℕ) (r : Reading) (is : Message 
   pub saying-bytes : plainBytes t saying ≡ bs
   unfolding saying plainBytes
   saying-bytes = ap (λ (l : List ℕ). r .mti ++ (is .maps ++ l)) (says .bytes) ∙ sym (is .spelt)
+
+  -- and it reads as the message did
+  pub saying-reading : readingOf t (r .mti) (countOf (is .maps)) (contentsIn (bs ++ post) (r .entries)) ≡ r
+  saying-reading =
+      let e : standing t (4 + 8 * r .count) (contentsIn (bs ++ post) (r .entries)) ≡ r .entries =
+      stood t (is .fields) (r .mti ++ is .maps) post (bs ++ post) (length-append (r .mti) (is .maps) ∙ omega (arith, is .four, is .whole)) (ap (λ (l : List ℕ). l ++ post) (is .spelt) ∙ simp append-assoc) in
+      ap (λ (k : ℕ). readingOf t (r .mti) k (contentsIn (bs ++ post) (r .entries))) (sym (is .chained))
+      ∙ (λ i. record { mti = r .mti; count = r .count; entries = e i })

@@ -1,6 +1,6 @@
 -- The two forms of a message as one, over the script. Assumes nothing.
 use Prim.Native.Nat.{ℕ, _≤_}
-use mathlib.Core.Path.{_≡_, refl}
+use mathlib.Core.Path.{_≡_, refl, ap}
 use mathlib.Core.Bool.{cond}
 use mathlib.Core.List.{List, [], _∷_, _++_}
 use native.Mathlib.Omega.{arith}
@@ -77,7 +77,7 @@ fields-shorter t (c ∷ cs) =
       fields-shorter t cs,
     )
 
-pub packed-short : (t : Table) (p : Parts) → length (bytesIn Packed t p) ≤ length (bytesIn Plain t p)
+packed-short : (t : Table) (p : Parts) → length (bytesIn Packed t p) ≤ length (bytesIn Plain t p)
 unfolding bytesIn
 packed-short t p =
     omega (
@@ -89,3 +89,6 @@ packed-short t p =
       shorter (p .mti),
       fields-shorter t (p .contents),
     )
+
+pub shorter-form : (t : Table) (p : Parts) → length (packedBytes t p) ≤ length (plainBytes t p)
+shorter-form t p = omega (arith, packed-short t p, ap length (plain-is t p), ap length (packed-is t p))
