@@ -6,7 +6,10 @@
 --   contentSize S c n    == how many bytes a content of n digits (class n) or n bytes takes
 --   isContent S c n s    == the bytes s are such a content: digits, text or any bytes, as the class has it
 --   lengthFault S        == the refusal of length digits that are none
---   contentFault S c     == the refusal of a content that is none
+--   digitsFault S        == the refusal of a content of class n that is no digits
+--   contentFault S c     == the refusal of a content that is none of its class
+--   Found a n k j        == the length digits take a bytes, the content has n digits or bytes and takes the next k, and in the other script both
+--                           take j
 --   placeBy S w m c s    == where a field with w length digits, length or greatest length m, and class c stands at the front of s; no byte of
 --                           the content is asked about
 --   placeSized ..        == the same once the content's length n is known

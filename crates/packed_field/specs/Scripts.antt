@@ -8,7 +8,8 @@
 --   digitsOf S n s       == the n digits that the bytes s spell, as ASCII bytes
 --   speltIn S d          == the bytes that spell the ASCII digits d
 --   carried S n s        == the n digits of the bytes s, in the other script
---   carriedInto S n s o  == o afterwards where they are to be written to its front: left as it is where s is refused, or they do not fit
+--   carriedInto S n s o  == o afterwards where they are to be written to its front: left as it is where the BCD conversion of s is refused, or they do not
+--                           fit. In the plain script n is not asked
 --
 -- Assumes nothing: these are definitions.
 use Prim.Native.Nat.{ℕ}

@@ -10,7 +10,8 @@ ghost use Rattle.field_read.specs.Items.{lengthOf};
 ghost use Rattle.packed_field.specs.Scripts.{sizeOf, isSpelt, isPart, digitsOf, carriedInto, other};
 ghost use Rattle.packed_field.specs.Items.{isNumeric, contentSize, isContent, lengthFault, digitsFault, contentFault, placeBy, placeItem, judgeItem};
 
-// How digits are spelt: plain, a byte each, or packed, in BCD. Nothing else of a message differs.
+// How the digits of an MTI, of a length and of a content of class n are spelt: plain, a byte each, or packed, in BCD. Nothing else of a
+// message differs.
 pub enum Script {
     Plain,
     Packed,

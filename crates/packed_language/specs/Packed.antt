@@ -5,8 +5,8 @@
 --   Allowed t f c       == c is a content of field f as the plain language has it, and it is digits where its class is n
 --   AllAllowed t cs     == each of the fields cs has such a content
 --   AllDigits t cs      == the contents of class n among the fields cs are digits
---   Parts               == what a message says: the four digits of its MTI, its bitmaps, and its fields with their contents
---   IsMessage t m p     == p is what a message with at most m bitmaps says
+--   Parts               == a message apart from its form: the four digits of its MTI, its bitmaps, and its fields with their contents
+--   IsMessage t m p     == p is such a message, with at most m bitmaps
 --   plainBytes t p      == its plain form: MTI, bitmaps, and for each field its length digits, of which a fixed one has none, and its content
 --   packedContent c x   == the content x of class c in the packed form
 --   packedFields t cs   == the fields cs in the packed form, one after the other
@@ -15,6 +15,9 @@
 --
 -- `packed d` is the BCD of the digits d, a leading zero half-byte where their count is odd (encoding_bcd/specs/Bcd.antt); `decimal w n` is n in w
 -- digits, so that a length of w digits takes half of w bytes, rounded up, and counts what the content has in the plain form: digits, or bytes.
+--
+-- Shared with the link are `packed` and `unpacked`'s laws, `decimal`, `isNumeric`, the table, `countOf` and `fieldsOf`. What holds them to 02 and 01:
+-- the worked pairs (Worked.antt) for `packed`, `decimal` and `isNumeric`; the list in message_language/specs/Language.antt for the others.
 -- Assumes nothing: these are definitions.
 use Prim.Native.Nat.{ℕ, _*_, _≤_}
 use mathlib.Core.Path.{_≡_}

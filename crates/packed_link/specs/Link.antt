@@ -4,7 +4,7 @@
 --
 --   toldLink a               == what its answer tells; its values are the bytes used and the bytes written
 --   mtiFault S               == the refusal of an MTI that is not digits
---   linkHead S m s           == how many bitmaps an input has, at most m, or the refusal of its MTI or its bitmaps
+--   linkHead S m s           == how many bitmaps an input has, at most m, or the refusal of its length, its MTI or its bitmaps
 --   contentCarried S c n x   == the content x of class c, n digits or bytes long, in the other script
 --   itemCarried S t f a n k s == field f in the other script: its length digits take a bytes of s, its content the next k
 --   fieldsJudged S t at w fs s == judging the fields fs one after the other, the first at the place `at`, where s begins, and w bytes of

@@ -29,7 +29,7 @@ pub enum Judged {
     Refused(Refusal),
 }
 
-// Writes the plain message at the front of an input in packed form to the front of out. A refusal leaves out as it was.
+// Takes the plain message at the front of the input and writes its packed form to the front of out. A refusal leaves out as it was.
 pub fn pack(plain: &[u8], out: &mut [u8]) -> Translated
     ensures answers { λ r. ⌜ r ≡ linkAnswer Script.Plain house 3 (now (plain .entry)) (now (out .entry)) ⌝ }
     ensures tells { λ r. ⌜ toldLink r ≡ toldLink (linkAnswer Script.Plain house 3 (now (plain .entry)) (now (out .entry))) ⌝ }
@@ -39,7 +39,7 @@ pub fn pack(plain: &[u8], out: &mut [u8]) -> Translated
     translate(plain, Script::Plain, &table, out)
 }
 
-// Writes the packed message at the front of an input in plain form to the front of out. A refusal leaves out as it was.
+// Takes the packed message at the front of the input and writes its plain form to the front of out. A refusal leaves out as it was.
 pub fn unpack(packed: &[u8], out: &mut [u8]) -> Translated
     ensures answers { λ r. ⌜ r ≡ linkAnswer Script.Packed house 3 (now (packed .entry)) (now (out .entry)) ⌝ }
     ensures tells { λ r. ⌜ toldLink r ≡ toldLink (linkAnswer Script.Packed house 3 (now (packed .entry)) (now (out .entry))) ⌝ }
