@@ -150,7 +150,7 @@ empty : (l : List ℕ) → length l ≡ 0 → l ≡ []
 empty [] h = refl
 empty (x ∷ l) h = absurd (omega arith)
 
-digit-ascii : (x : ℕ) → isDigit x ≡ true → isAscii x ≡ true
+pub digit-ascii : (x : ℕ) → isDigit x ≡ true → isAscii x ≡ true
 digit-ascii x h = is-between 0 0x7F x (omega arith) (omega (arith, between-high 0x30 0x39 x h))
 
 module _ (S : Script) (t : Table) (small : Small t) (f : ℕ) (s : List ℕ) (a n k j : ℕ) (found : judgeItem S t f s ≡ Found a n k j) where

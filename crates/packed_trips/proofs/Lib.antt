@@ -3,3 +3,4 @@ pub mod Items
 pub mod Fields
 pub mod Messages
 pub mod Trips
+pub mod Refusals
