@@ -1,14 +1,14 @@
 -- The statements of specs/Refusals.antt. Assumes nothing.
-use Prim.Native.Nat.{ℕ, _-_, _≤_}
+use Prim.Native.Nat.{ℕ, _+_, _-_, _≤_}
 use mathlib.Core.Path.{_≡_, refl, sym, ap, _∙_}
-use mathlib.Core.Bool.{Bool, true, false}
-use mathlib.Core.List.{List, [], _∷_, _++_}
+use mathlib.Core.Bool.{true, false}
+use mathlib.Core.List.{List}
 use native.Mathlib.Omega.{arith}
 use lib.Dec.{eqb}
 use lib.ListN.{length, take, drop}
 use lib.Seq.{length-take-le}
 use borrow.Author.Tests.{lt-ltb, le-ltb, eq-eqb}
-use Rattle.octets.specs.Lists.{between, either, both, all, lead, lay}
+use Rattle.octets.specs.Lists.{between, either, all}
 use Rattle.octets.specs.Numbers.{isDigit, isAscii, areDigits, digits, number}
 use Rattle.octets.proofs.Cases.{by-bool, by-lt, both-right, false-true}
 use Rattle.octets.proofs.Lists.{all-weaker}
@@ -78,7 +78,7 @@ found-read t f s a n k j e =
             start = st;
             whole = rw (← st) (g .place .whole);
             digits = rw (← st) (digits-of (t .width f) (take a s) (g .place .digits));
-            is-n = rw (← st) (g .place .is-n);
+            is-n = g .place .is-n ∙ ap (λ (y : ℕ). lengthOf (t .width f) (t .most f) (take y s)) st;
             short = g .place .short;
             room = rw (← st, ← q) (g .place .room);
             text = rw (← st, ← q) (content-read (t .class f) n (take k (drop a s)) (g .content));
@@ -130,7 +130,10 @@ module _ (t : Table) (f : ℕ) (s : List ℕ) (x : ℕ) (e : judgeItem Plain t f
       ends pastTheEnd (rw (le-ltb (length s) w whole, sp, ← is, le-ltb m n short, size-plain c n, lt-ltb (length s - w) n h))
       (rw (le-ltb (length s) w whole, dg, ← is, le-ltb m n short, lt-ltb (length s - w) n h)))
       (λ room. by-bool (isContent Plain c n (take n (drop w s)))
-      (λ g. absurd (never _ x _ _ _ _ e (rw (le-ltb (length s) w whole, sp, ← is, le-ltb m n short, size-plain c n, le-ltb (length s - w) n room, g))))
+      (λ g.
+      let q : judgeItem Plain t f s ≡ Found w n n (sizeOf Packed w + contentSize Packed c n) =
+      rw (le-ltb (length s) w whole, sp, ← is, le-ltb m n short, size-plain c n, le-ltb (length s - w) n room, g) in
+      absurd (never _ x w n n (sizeOf Packed w + contentSize Packed c n) e q))
       (λ g. judged whole sp dg n is short room g)))
     where
       judged : w ≤ length s → isSpelt Plain w (take w s) ≡ true → all isDigit (take w s) ≡ true → (n : ℕ) → n ≡ lengthOf w m (take w s) → n ≤ m → n ≤ length s - w

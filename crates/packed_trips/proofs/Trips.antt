@@ -15,8 +15,7 @@ use Rattle.refusal.specs.declared.Refusal.{Refusal}
 use Rattle.field_table.specs.Table.{Table, Small}
 use Rattle.field_table.specs.House.{house}
 use Rattle.field_table.proofs.Rows.{house-small}
-use Rattle.bitmap.specs.Bitmaps.{countOf}
-use Rattle.message_language.specs.Language.{Reading, Message, Begins}
+use Rattle.message_language.specs.Language.{Reading, Begins}
 use Rattle.message_contents.specs.Contents.{contentsIn}
 use Rattle.packed_field.specs.declared.Script.{Script}
 use Rattle.packed_field.specs.declared.Script.the-variants.{Plain, Packed}
@@ -28,7 +27,7 @@ use Rattle.packed_link.specs.declared.Translated.the-variants.{Done, Refused}
 use Rattle.packed_link.specs.Link.{linkJudged, linkCarried, linkAnswer, linkOutput}
 use Rattle.packed_language.specs.Packed.{AllDigits, Parts, IsMessage, plainBytes, packedBytes, Starts}
 use Rattle.packed_language.proofs.Plain.{plain-message, plain-contents, all-digits, saying, saying-is, saying-bytes, saying-reading}
-use Rattle.packed_trips.specs.Trips.{says, formOf, Carries, Links, Packs, Returns, Leaves, HouseLinks}
+use Rattle.packed_trips.specs.Trips.{says, formOf, Links, Packs, Returns, Leaves, HouseLinks}
 use Rattle.packed_trips.proofs.Forms.{bytesIn, plain-is, packed-is, shorter-form}
 use Rattle.packed_trips.proofs.Messages.{sound, judged-good, carried-is, one-message}
 
