@@ -27,7 +27,7 @@ pub struct Translated {
 /// assert_eq!(out, *b"\x08\x00\x20\0\0\0\0\0\0\0\x12\x34\x56\xEE");
 ///
 /// let refusal = pack(b"0800\x20\0\0\0\0\0\0\x0012345x", &mut out).unwrap_err();
-/// assert_eq!(refusal.to_string(), "field 3: BCD source not digits (21) at byte 12");
+/// assert_eq!(refusal.to_string(), "field 3: not digits (21) at byte 12");
 /// # Ok::<(), obolchime::Refusal>(())
 /// ```
 pub fn pack(plain: &[u8], out: &mut [u8]) -> Result<Translated, Refusal> {

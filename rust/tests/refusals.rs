@@ -12,7 +12,7 @@ fn words(answer: Result<impl std::fmt::Debug, Refusal>) -> String {
 #[test]
 fn reading() {
     let one = |body: &[u8]| [b"0800\x40\0\0\0\0\0\0\0", body].concat();
-    assert_eq!(words(read(b"")), "message under 12 bytes (2)");
+    assert_eq!(words(read(b"")), "message too short (2)");
     assert_eq!(words(read(b"08x0\0\0\0\0\0\0\0\0")), "MTI has a non-digit (3) at byte 2");
     assert_eq!(words(read(b"x800\0\0\0\0\0\0\0\0")), "MTI has a non-digit (3) at byte 0");
     assert_eq!(words(read(b"0800\x80\0\0\0\0\0\0\0")), "second or third bitmap incomplete (4) at byte 12");
@@ -33,21 +33,21 @@ fn packing() {
         words(answer)
     };
     let one = |body: &[u8]| [b"0800\x40\0\0\0\0\0\0\0", body].concat();
-    assert_eq!(packed(b"0800\0\0\0\0\0\0\0"), "message under 12 bytes (2)");
+    assert_eq!(packed(b"0800\0\0\0\0\0\0\0"), "message too short (2)");
     assert_eq!(packed(b"08x0\0\0\0\0\0\0\0\0"), "MTI has a non-digit (3) at byte 2");
     assert_eq!(packed(b"0800\x80\0\0\0\0\0\0\0"), "second or third bitmap incomplete (4) at byte 12");
     assert_eq!(packed(&one(b"1")), "field 2: length digits or content run past the end (5) at byte 12");
     assert_eq!(packed(&one(b"1x")), "field 2: a length byte is not 0-9 (6) at byte 12");
     assert_eq!(packed(&one(b"20")), "field 2: length over the table's (7) at byte 12");
     assert_eq!(packed(&one(b"021")), "field 2: length digits or content run past the end (5) at byte 12");
-    assert_eq!(packed(&one(b"01x")), "field 2: BCD source not digits (21) at byte 12");
-    assert_eq!(packed(&one(b"01\x80")), "field 2: BCD source not digits (21) at byte 12");
+    assert_eq!(packed(&one(b"01x")), "field 2: not digits (21) at byte 12");
+    assert_eq!(packed(&one(b"01\x80")), "field 2: not digits (21) at byte 12");
     assert_eq!(packed(b"0800\0\0\0\0\0\x10\0\x0001\x80"), "field 44: text byte over 0x7F (8) at byte 12");
     let mut short = [0xA5; 11];
     let refusal = pack(&one(b"017"), &mut short).unwrap_err();
     assert_eq!((refusal.to_string().as_str(), refusal.field(), refusal.position()), ("output too short (14)", 0, 0));
     assert_eq!((refusal.within(), short), (Within::Nothing, [0xA5; 11]));
-    assert_eq!(words(pack(&one(b"01x"), &mut [])), "field 2: BCD source not digits (21) at byte 12");
+    assert_eq!(words(pack(&one(b"01x"), &mut [])), "field 2: not digits (21) at byte 12");
 }
 
 #[test]
@@ -60,7 +60,7 @@ fn unpacking() {
     };
     let one = |body: &[u8]| [b"\x08\0\x40\0\0\0\0\0\0\0", body].concat();
     let spoilt = "BCD half-byte over 9, or spare leading digit not 0 (22)";
-    assert_eq!(unpacked(b"\x08\0\0\0\0\0\0\0\0"), "message under 12 bytes (2)");
+    assert_eq!(unpacked(b"\x08\0\0\0\0\0\0\0\0"), "message too short (2)");
     assert_eq!(unpacked(b"\x0A\0\0\0\0\0\0\0\0\0"), format!("{spoilt} at byte 0"));
     assert_eq!(unpacked(b"\x08\xA0\0\0\0\0\0\0\0\0"), format!("{spoilt} at byte 1"));
     assert_eq!(unpacked(b"\x08\0\x80\0\0\0\0\0\0\0"), "second or third bitmap incomplete (4) at byte 10");
@@ -203,7 +203,7 @@ fn a_whole_message() {
 
 #[test]
 fn converting() {
-    assert_eq!(words(bcd::encode(b"1x")), "BCD source not digits (21)");
+    assert_eq!(words(bcd::encode(b"1x")), "not digits (21)");
     assert_eq!(words(bcd::decode(&[0x1A], 2)), "BCD half-byte over 9, or spare leading digit not 0 (22)");
     assert_eq!(words(bcd::decode(&[0x11], 1)), "BCD half-byte over 9, or spare leading digit not 0 (22)");
     assert_eq!(words(bcd::decode(&[0x12], usize::MAX)), "byte count wrong for the digits asked (23)");
