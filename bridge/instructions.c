@@ -34,8 +34,8 @@ static struct {
 
 static const uint8_t short_fields[] = {7, 11}, typical_fields[] = {2, 3, 4, 7, 11, 12, 13, 22, 25, 37, 41, 42};
 
-static uint8_t message[8192], notes[OBOL_NOTES_ROOM], out[8192];
-static size_t message_size, notes_size;
+static uint8_t message[8192], notes[OBOL_NOTES_ROOM], out[8192], link_form[8192];
+static size_t message_size, notes_size, link_size;
 
 static const uint8_t pan[] = "4111111111111111", text[] = "CARD ACCEPTOR NAME, STREET 12, CITY   DE";
 static uint8_t packed[8], ebcdic[40];
@@ -108,6 +108,11 @@ static void make_notes(void) {
         notes_size += 8;
     }
     notes_size += 5;
+    struct obol_translated carried = obol_pack(message, message_size, link_form, sizeof link_form);
+    if (carried.number != 0 || carried.used != message_size) {
+        fail("the message cannot be packed");
+    }
+    link_size = carried.written;
 }
 
 static uint8_t *put(uint64_t number, int size, uint8_t *to) {
@@ -176,6 +181,8 @@ static uint64_t work_read(void) { return obol_read(message, message_size, notes,
 static uint64_t work_bare(void) { return read_bare(message, message_size, notes) != message_size; }
 static uint64_t work_exact(void) { return obol_write_exact(message, message_size, notes, notes_size, out, message_size).number; }
 static uint64_t work_clean(void) { return obol_write_clean(message, message_size, notes, notes_size, out, message_size).number; }
+static uint64_t work_pack(void) { return obol_pack(message, message_size, link_form, sizeof link_form).number; }
+static uint64_t work_unpack(void) { return obol_unpack(link_form, link_size, out, message_size).number; }
 static uint64_t work_lookup(void) { return obol_look_up(message, message_size, notes, notes_size, 41).number; }
 static uint64_t work_required(void) { return obol_check_required(message, message_size, notes, notes_size).number; }
 static uint64_t work_bcd_encode(void) { return obol_bcd_encode(pan, 16, out, 64).number; }
@@ -192,6 +199,8 @@ static const struct {
     {"bare", work_bare},
     {"exact", work_exact},
     {"clean", work_clean},
+    {"pack", work_pack},
+    {"unpack", work_unpack},
     {"lookup", work_lookup},
     {"required", work_required},
     {"bcd-encode", work_bcd_encode},

@@ -129,6 +129,17 @@ static void the_largest(void) {
     struct obol_cleaned c = obol_write_clean(message, size, notes, OBOL_NOTES_ROOM, out, size);
     EXPECT(ACCEPTED(c) && c.length == size && memcmp(out, message, size) == 0);
     EXPECT(c.padded1 == 0 && c.padded2 == 0 && c.padded3 == 0);
+
+    /* packed and back; the packed form has the room of its own length, to the byte */
+    struct obol_translated there = obol_pack(message, size, out, size);
+    EXPECT(ACCEPTED(there) && there.used == size && there.written < size);
+    uint8_t *packed = guarded(there.written);
+    EXPECT(REFUSED(obol_pack(message, size, packed, there.written - 1), OBOL_OUTPUT_TOO_SHORT, 0, 0));
+    EXPECT(untouched(packed, there.written));
+    EXPECT(ACCEPTED(obol_pack(message, size, packed, there.written)));
+    memset(out, 0xA5, size);
+    struct obol_translated back = obol_unpack(packed, there.written, out, size);
+    EXPECT(ACCEPTED(back) && back.used == there.written && back.written == size && memcmp(out, message, size) == 0);
 }
 
 static void cleaning(void) {
@@ -167,6 +178,103 @@ static void cleaning(void) {
         struct obol_found f = obol_look_up(values, 11, some, cut, 3);
         EXPECT(REFUSED(f, OBOL_NOTE_MALFORMED, 0, at) && f.offset == 0 && f.length == 0);
     }
+}
+
+/* A byte of a message changed, and the refusal that it brings. */
+struct slip {
+    size_t at;
+    uint8_t byte;
+    uint64_t number, field, position;
+};
+
+/* A message in one form: where its bitmaps end and its fields start, and what can be wrong with it. */
+struct form {
+    struct obol_translated (*carry)(const uint8_t *input, size_t input_length, uint8_t *out, size_t out_length);
+    const uint8_t *bytes;
+    size_t size, head;
+    struct {
+        uint64_t number;
+        size_t start;
+    } fields[4];
+    const struct slip *slips;
+    size_t slip_count;
+};
+
+static int refused_so(struct obol_translated t, uint64_t number, uint64_t field, uint64_t position) {
+    return REFUSED(t, number, field, position) && t.used == 0 && t.written == 0;
+}
+
+static void carrying(const struct form *from, const struct form *to) {
+    uint8_t *input = guarded_copy(from->bytes, from->size);
+    uint8_t *out = guarded(to->size + 1);
+    for (size_t size = 0; size < from->size; size++) {
+        uint8_t *cut = guarded_copy(input, size);
+        struct obol_translated t = from->carry(cut, size, out, to->size + 1);
+        if (size < from->head) {
+            EXPECT(refused_so(t, OBOL_MESSAGE_TOO_SHORT, 0, 0));
+        } else {
+            int i = 3;
+            while (i > 0 && size < from->fields[i].start) {
+                i--;
+            }
+            EXPECT(refused_so(t, OBOL_PAST_THE_END, from->fields[i].number, from->fields[i].start));
+        }
+    }
+    for (size_t i = 0; i < from->slip_count; i++) {
+        const struct slip *slip = &from->slips[i];
+        uint8_t *spoilt = guarded_copy(input, from->size);
+        spoilt[slip->at] = slip->byte;
+        EXPECT(refused_so(from->carry(spoilt, from->size, out, to->size + 1), slip->number, slip->field, slip->position));
+        EXPECT(refused_so(from->carry(spoilt, from->size, NULL, 0), slip->number, slip->field, slip->position));
+    }
+    uint8_t *chained = guarded_copy(input, from->head);
+    chained[from->head - 8] |= 0x80;
+    EXPECT(refused_so(from->carry(chained, from->head, out, to->size + 1), OBOL_BITMAP_INCOMPLETE, 0, from->head));
+    EXPECT(refused_so(from->carry(input, from->size, out, to->size - 1), OBOL_OUTPUT_TOO_SHORT, 0, 0));
+    EXPECT(untouched(out, to->size + 1));
+
+    struct obol_translated t = from->carry(input, from->size, out, to->size + 1);
+    EXPECT(ACCEPTED(t) && t.used == from->size && t.written == to->size);
+    EXPECT(memcmp(out, to->bytes, to->size) == 0 && out[to->size] == 0xA5);
+
+    /* what stands behind the message is ignored */
+    uint8_t *longer = guarded(from->size + 3);
+    memcpy(longer, input, from->size);
+    memset(out, 0xA5, to->size + 1);
+    t = from->carry(longer, from->size + 3, out + 1, to->size);
+    EXPECT(ACCEPTED(t) && t.used == from->size && t.written == to->size && memcmp(out + 1, to->bytes, to->size) == 0);
+}
+
+/* Fields 2, of an odd count of digits, 36, whose length has three, 41 and 52. */
+static void linking(void) {
+    static const uint8_t plain_bytes[] = "0200\x40\0\0\0\x10\x80\x10\0" "15" "411111111111111" "005" "12345" "TERM0001"
+                                         "\xFF\xFE\xFD\xFC\xFB\xFA\xA0\x0A";
+    static const uint8_t packed_bytes[] = "\x02\x00\x40\0\0\0\x10\x80\x10\0" "\x15" "\x04\x11\x11\x11\x11\x11\x11\x11"
+                                          "\x00\x05" "\x01\x23\x45" "TERM0001" "\xFF\xFE\xFD\xFC\xFB\xFA\xA0\x0A";
+    static const struct slip plain_slips[] = {
+        {0, 'x', OBOL_MTI_NOT_DIGITS, 0, 0},      {3, '/', OBOL_MTI_NOT_DIGITS, 0, 3},      {12, '+', OBOL_LENGTH_NOT_DIGITS, 2, 12},
+        {13, ':', OBOL_LENGTH_NOT_DIGITS, 2, 12}, {12, '2', OBOL_LENGTH_OVER_TABLE, 2, 12}, {14, 0xB4, OBOL_NOT_DIGITS, 2, 12},
+        {28, 'x', OBOL_NOT_DIGITS, 2, 12},        {31, ' ', OBOL_LENGTH_NOT_DIGITS, 36, 29}, {29, '9', OBOL_LENGTH_OVER_TABLE, 36, 29},
+        {32, '/', OBOL_NOT_DIGITS, 36, 29},       {36, ':', OBOL_NOT_DIGITS, 36, 29},       {37, 0x80, OBOL_TEXT_NOT_ASCII, 41, 37},
+        {44, 0xFF, OBOL_TEXT_NOT_ASCII, 41, 37},
+    };
+    static const struct slip packed_slips[] = {
+        {0, 0xA2, OBOL_NOT_BCD, 0, 0},    {1, 0x0A, OBOL_NOT_BCD, 0, 1},            {10, 0x1A, OBOL_NOT_BCD, 2, 10},
+        {10, 0xA5, OBOL_NOT_BCD, 2, 10},  {10, 0x25, OBOL_LENGTH_OVER_TABLE, 2, 10}, {11, 0x14, OBOL_NOT_BCD, 2, 10},
+        {18, 0x1F, OBOL_NOT_BCD, 2, 10},  {19, 0x10, OBOL_NOT_BCD, 36, 19},         {20, 0xA5, OBOL_NOT_BCD, 36, 19},
+        {19, 0x09, OBOL_LENGTH_OVER_TABLE, 36, 19}, {21, 0x11, OBOL_NOT_BCD, 36, 19}, {23, 0x4A, OBOL_NOT_BCD, 36, 19},
+        {24, 0x80, OBOL_TEXT_NOT_ASCII, 41, 24},    {31, 0xFF, OBOL_TEXT_NOT_ASCII, 41, 24},
+    };
+    static const struct form plain = {
+        obol_pack, plain_bytes, sizeof plain_bytes - 1, 12, {{2, 12}, {36, 29}, {41, 37}, {52, 45}}, plain_slips,
+        sizeof plain_slips / sizeof plain_slips[0],
+    };
+    static const struct form packed = {
+        obol_unpack, packed_bytes, sizeof packed_bytes - 1, 10, {{2, 10}, {36, 19}, {41, 24}, {52, 32}}, packed_slips,
+        sizeof packed_slips / sizeof packed_slips[0],
+    };
+    carrying(&plain, &packed);
+    carrying(&packed, &plain);
 }
 
 static void converting(void) {
@@ -248,6 +356,8 @@ static void nothing(void) {
     EXPECT(REFUSED(obol_write_exact(NULL, 0, NULL, 0, NULL, 0), OBOL_NOTE_MALFORMED, 0, 0));
     EXPECT(REFUSED(obol_write_clean(NULL, 0, NULL, 0, NULL, 0), OBOL_NOTE_MALFORMED, 0, 0));
     EXPECT(REFUSED(obol_look_up(NULL, 0, NULL, 0, 0), OBOL_NOTE_MALFORMED, 0, 0));
+    EXPECT(REFUSED(obol_pack(NULL, 0, NULL, 0), OBOL_MESSAGE_TOO_SHORT, 0, 0));
+    EXPECT(REFUSED(obol_unpack(NULL, 0, NULL, 0), OBOL_MESSAGE_TOO_SHORT, 0, 0));
     EXPECT(REFUSED(obol_check_field(2, NULL, 0), OBOL_PAN_FAILS, 2, 0));
     EXPECT(ACCEPTED(obol_check_field(48, NULL, 0)));
     EXPECT(REFUSED(obol_check_required(NULL, 0, NULL, 0), OBOL_NOTE_MALFORMED, 0, 0));
@@ -266,6 +376,7 @@ int main(void) {
     reading();
     the_largest();
     cleaning();
+    linking();
     converting();
     checking();
     nothing();

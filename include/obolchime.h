@@ -16,9 +16,9 @@
  * No function keeps a pointer, allocates, prints, exits or has a state of its own: calls from several threads need no lock.
  *
  * Every answer begins with number, field and position. All three are 0 where the call is accepted. A refusal has its number (below),
- * the field that it is about (0 if none) and a position: in the message for obol_read; in the notes for obol_look_up, the writers and
- * obol_check_required (there but for 19); else 0. A refusal changes no byte of any buffer, and the rest of its answer is 0. An accepted
- * call touches no byte beyond what it wrote.
+ * the field that it is about (0 if none) and a position: in the message for obol_read; in the input, plain or packed, for obol_pack and
+ * obol_unpack (but for 14); in the notes for obol_look_up, the writers and obol_check_required (there but for 19); else 0. A refusal
+ * changes no byte of any buffer, and the rest of its answer is 0. An accepted call touches no byte beyond what it wrote.
  */
 #ifndef OBOLCHIME_H
 #define OBOLCHIME_H
@@ -36,7 +36,7 @@ extern "C" {
 /* The numbers of refusals. */
 enum {
     OBOL_NOTES_TOO_SHORT = 1,      /* the notes buffer is under 1,531 bytes */
-    OBOL_MESSAGE_TOO_SHORT = 2,    /* the message is under 12 bytes */
+    OBOL_MESSAGE_TOO_SHORT = 2,    /* the message is under 12 bytes, a packed one under 10 */
     OBOL_MTI_NOT_DIGITS = 3,       /* the MTI has a non-digit */
     OBOL_BITMAP_INCOMPLETE = 4,    /* the second or third bitmap is incomplete */
     OBOL_PAST_THE_END = 5,         /* length digits or content run past the end */
@@ -55,7 +55,7 @@ enum {
     OBOL_AMOUNT_ZERO = 18,         /* the amount is all zeros */
     OBOL_REQUIRED_MISSING = 19,    /* a required field is missing */
     OBOL_DATE_OR_TIME_WRONG = 20,  /* the date or time is wrong */
-    OBOL_NOT_DIGITS = 21,          /* the BCD source is not digits */
+    OBOL_NOT_DIGITS = 21,          /* the BCD source, or a content of class n to be packed, is not digits */
     OBOL_NOT_BCD = 22,             /* a BCD half-byte is over 9, or the spare leading digit is not 0 */
     OBOL_BYTE_COUNT_WRONG = 23,    /* the byte count is wrong for the digits asked */
     OBOL_NO_ASCII_MEANING = 24,    /* a byte has no ASCII meaning */
@@ -89,6 +89,12 @@ struct obol_found {
     uint64_t number, field, position;
     uint64_t offset; /* of the content, in the values */
     uint64_t length; /* of the content */
+};
+
+struct obol_translated {
+    uint64_t number, field, position;
+    uint64_t used;    /* bytes of the input's message; what follows it was ignored */
+    uint64_t written; /* bytes of the output */
 };
 
 struct obol_measured {
@@ -125,6 +131,23 @@ struct obol_cleaned obol_write_clean(const uint8_t *values, size_t values_length
  * end note's.
  */
 struct obol_found obol_look_up(const uint8_t *values, size_t values_length, const uint8_t *notes, size_t notes_length, size_t number);
+
+/*
+ * Writes the plain message at the front of the input in packed form to the front of out, for a bank that talks packed: MTI in two BCD
+ * bytes, bitmaps as they are, LL in one BCD byte and LLL in two, contents of class n in BCD with a leading zero half-byte where their
+ * digits are odd, all others as they are. Lengths count digits in both forms. Bytes after the message are ignored.
+ * Refuses with 2, 3, 4, then field by field 5, 6, 7, 5, and 21 (class n) or 8, then 14. The position of 3 is the first byte that is no
+ * digit, of 4 where the bitmap starts, of the others the field's first byte; 14 has field 0 and position 0.
+ */
+struct obol_translated obol_pack(const uint8_t *plain, size_t plain_length, uint8_t *out, size_t out_length);
+
+/*
+ * Writes the packed message at the front of the input in plain form to the front of out. What obol_pack wrote it takes back to the
+ * bytes that were packed, and the other way round.
+ * Refuses with 2, 22 for the MTI at its first bad byte, 4, then field by field 5, 22, 7, 5, and 22 (class n) or 8, then 14: a half-byte
+ * over 9, or a spare one that is not 0, is 22. Positions as for obol_pack, in the packed input.
+ */
+struct obol_translated obol_unpack(const uint8_t *packed, size_t packed_length, uint8_t *out, size_t out_length);
 
 /*
  * Whether a content may stand in a field: its number (10), its class (16), its length (12); then the PAN for field 2 (17), and no

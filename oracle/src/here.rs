@@ -45,6 +45,15 @@ pub struct Found {
     pub length: u64,
 }
 
+/// What carrying a message over tells.
+#[repr(C)]
+#[derive(Clone, Copy)]
+pub struct Translated {
+    pub verdict: Verdict,
+    pub used: u64,
+    pub written: u64,
+}
+
 mod c {
     use super::*;
     extern "C" {
@@ -63,6 +72,8 @@ mod c {
         pub fn obol_ebcdic_decode(s: *const u8, n: u64, out: *mut u8, room: u64) -> Output;
         pub fn obol_length_encode(length: u64, digits: u64, e: u64, out: *mut u8, room: u64) -> Output;
         pub fn obol_length_decode(s: *const u8, n: u64, digits: u64, e: u64) -> Output;
+        pub fn obol_pack(m: *const u8, n: u64, out: *mut u8, room: u64) -> Translated;
+        pub fn obol_unpack(m: *const u8, n: u64, out: *mut u8, room: u64) -> Translated;
     }
 }
 
@@ -73,6 +84,14 @@ fn size(bytes: &[u8]) -> u64 {
 
 pub fn read(message: &[u8], notes: &mut [u8]) -> Reading {
     unsafe { c::obol_read(message.as_ptr(), size(message), notes.as_mut_ptr(), size(notes)) }
+}
+
+pub fn pack(plain: &[u8], out: &mut [u8]) -> Translated {
+    unsafe { c::obol_pack(plain.as_ptr(), size(plain), out.as_mut_ptr(), size(out)) }
+}
+
+pub fn unpack(packed: &[u8], out: &mut [u8]) -> Translated {
+    unsafe { c::obol_unpack(packed.as_ptr(), size(packed), out.as_mut_ptr(), size(out)) }
 }
 
 pub fn write_exact(values: &[u8], notes: &[u8], out: &mut [u8]) -> Output {

@@ -53,6 +53,7 @@ impl Watch {
 
     fn message(&mut self, message: &[u8]) {
         let message = exactly(message);
+        self.link(&message);
         for room in [notes::ROOM, notes::ROOM - 1, 0] {
             let mut notes = exactly(&vec![0xEE; room]);
             let answer = here::read(&message, &mut notes);
@@ -61,6 +62,22 @@ impl Watch {
                 let size = notes::taken_apart(&notes).unwrap().size;
                 self.notes(&message, &notes[..size]);
             }
+        }
+    }
+
+    /// Packed, and taken for a packed one; what was packed is unpacked, whole and with a byte changed.
+    fn link(&mut self, message: &[u8]) {
+        let written = |t: here::Translated| here::Output { verdict: t.verdict, length: t.written };
+        self.offered(message.len(), |out| written(here::pack(message, out)));
+        self.offered(2 * message.len(), |out| written(here::unpack(message, out)));
+        let mut packed = vec![0xEE; message.len()];
+        let n = here::pack(message, &mut packed).written as usize;
+        for damaged in [false, true] {
+            let mut packed = exactly(&packed[..n]);
+            if damaged && n > 0 {
+                packed[self.random.below(n)] = self.random.next() as u8;
+            }
+            self.offered(message.len(), |out| written(here::unpack(&packed, out)));
         }
     }
 

@@ -9,7 +9,7 @@ use crate::{ffi, Refusal, Within};
 /// use obolchime::bcd;
 ///
 /// assert_eq!(bcd::encode(b"123")?, [0x01, 0x23]);
-/// assert_eq!(bcd::encode(b"12a").unwrap_err().to_string(), "BCD source not digits (21)");
+/// assert_eq!(bcd::encode(b"12a").unwrap_err().to_string(), "not digits (21)");
 /// # Ok::<(), obolchime::Refusal>(())
 /// ```
 pub fn encode(digits: &[u8]) -> Result<Vec<u8>, Refusal> {

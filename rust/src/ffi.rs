@@ -51,6 +51,15 @@ pub struct Found {
 }
 
 #[repr(C)]
+pub struct Translated {
+    pub number: u64,
+    pub field: usize,
+    pub position: usize,
+    pub used: usize,
+    pub written: usize,
+}
+
+#[repr(C)]
 pub struct Measured {
     pub number: u64,
     pub field: usize,
@@ -84,6 +93,8 @@ extern "C" {
         out_length: usize,
     ) -> Cleaned;
     fn obol_look_up(values: *const u8, values_length: usize, notes: *const u8, notes_length: usize, number: usize) -> Found;
+    fn obol_pack(plain: *const u8, plain_length: usize, out: *mut u8, out_length: usize) -> Translated;
+    fn obol_unpack(packed: *const u8, packed_length: usize, out: *mut u8, out_length: usize) -> Translated;
     fn obol_check_field(number: usize, content: *const u8, content_length: usize) -> Checked;
     fn obol_check_required(values: *const u8, values_length: usize, notes: *const u8, notes_length: usize) -> Checked;
     fn obol_check_pan(content: *const u8, content_length: usize) -> Checked;
@@ -115,6 +126,16 @@ pub fn write_clean(values: &[u8], notes: &[u8], out: &mut [u8]) -> Cleaned {
 pub fn look_up(values: &[u8], notes: &[u8], number: usize) -> Found {
     // SAFETY: both are slices, and only read; any number is taken.
     unsafe { obol_look_up(values.as_ptr(), values.len(), notes.as_ptr(), notes.len(), number) }
+}
+
+pub fn pack(plain: &[u8], out: &mut [u8]) -> Translated {
+    // SAFETY: both are slices; out is exclusive.
+    unsafe { obol_pack(plain.as_ptr(), plain.len(), out.as_mut_ptr(), out.len()) }
+}
+
+pub fn unpack(packed: &[u8], out: &mut [u8]) -> Translated {
+    // SAFETY: both are slices; out is exclusive.
+    unsafe { obol_unpack(packed.as_ptr(), packed.len(), out.as_mut_ptr(), out.len()) }
 }
 
 pub fn check_field(number: usize, content: &[u8]) -> Checked {

@@ -14,6 +14,7 @@
 //! |---|---|
 //! | read a message, and see its fields | [`read`], [`Message`] |
 //! | write it back to the byte, or with short fixed contents padded | [`write_exact`], [`write_clean`], with [`Notes`] |
+//! | carry it over to a bank that talks packed, and back | [`pack`], [`unpack`] |
 //! | find a field by notes that come from elsewhere | [`look_up`] |
 //! | check a field, a message, a PAN, a date, a time | [`check`] |
 //! | convert BCD, EBCDIC, length indicators | [`bcd`], [`ebcdic`], [`length`] |
@@ -34,6 +35,7 @@
 #![deny(clippy::as_conversions)]
 
 mod ffi;
+mod link;
 mod message;
 mod notes;
 mod refusal;
@@ -43,6 +45,7 @@ pub mod check;
 pub mod ebcdic;
 pub mod length;
 
+pub use link::{pack, unpack, Translated};
 pub use message::{read, Field, Fields, Message};
 pub use notes::{look_up, write_clean, write_exact, Cleaned, FieldSet, NotePart, Notes, TooLarge, NOTES_ROOM};
 pub use refusal::{number, Refusal, Within};

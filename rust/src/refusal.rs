@@ -113,7 +113,7 @@ macro_rules! numbers {
 
 numbers! {
     NOTES_TOO_SHORT = 1, "notes buffer under 1,531 bytes";
-    MESSAGE_TOO_SHORT = 2, "message under 12 bytes";
+    MESSAGE_TOO_SHORT = 2, "message too short";
     MTI_NOT_DIGITS = 3, "MTI has a non-digit";
     BITMAP_INCOMPLETE = 4, "second or third bitmap incomplete";
     PAST_THE_END = 5, "length digits or content run past the end";
@@ -132,7 +132,7 @@ numbers! {
     AMOUNT_ZERO = 18, "amount all zeros";
     REQUIRED_MISSING = 19, "required field missing";
     DATE_OR_TIME_WRONG = 20, "date or time wrong";
-    NOT_DIGITS = 21, "BCD source not digits";
+    NOT_DIGITS = 21, "not digits";
     NOT_BCD = 22, "BCD half-byte over 9, or spare leading digit not 0";
     BYTE_COUNT_WRONG = 23, "byte count wrong for the digits asked";
     NO_ASCII_MEANING = 24, "byte has no ASCII meaning";

@@ -1,7 +1,9 @@
 //! What refusals say, and that they leave the buffers alone.
 
 use obolchime::length::{self, Encoding};
-use obolchime::{bcd, check, ebcdic, look_up, number, read, write_clean, write_exact, NotePart, Notes, Refusal, TooLarge, Within};
+use obolchime::{
+    bcd, check, ebcdic, look_up, number, pack, read, unpack, write_clean, write_exact, NotePart, Notes, Refusal, TooLarge, Within,
+};
 
 fn words(answer: Result<impl std::fmt::Debug, Refusal>) -> String {
     answer.expect_err("this is refused").to_string()
@@ -10,7 +12,7 @@ fn words(answer: Result<impl std::fmt::Debug, Refusal>) -> String {
 #[test]
 fn reading() {
     let one = |body: &[u8]| [b"0800\x40\0\0\0\0\0\0\0", body].concat();
-    assert_eq!(words(read(b"")), "message under 12 bytes (2)");
+    assert_eq!(words(read(b"")), "message too short (2)");
     assert_eq!(words(read(b"08x0\0\0\0\0\0\0\0\0")), "MTI has a non-digit (3) at byte 2");
     assert_eq!(words(read(b"x800\0\0\0\0\0\0\0\0")), "MTI has a non-digit (3) at byte 0");
     assert_eq!(words(read(b"0800\x80\0\0\0\0\0\0\0")), "second or third bitmap incomplete (4) at byte 12");
@@ -20,6 +22,61 @@ fn reading() {
     assert_eq!(words(read(&one(b"01\x80"))), "field 2: text byte over 0x7F (8) at byte 12");
     assert_eq!(read(b"").unwrap_err().within(), Within::Nothing);
     assert_eq!(read(&one(b"1")).unwrap_err().within(), Within::Message);
+}
+
+#[test]
+fn packing() {
+    let mut out = [0xA5; 64];
+    let mut packed = |input: &[u8]| {
+        let answer = pack(input, &mut out);
+        assert_eq!(out, [0xA5; 64]);
+        words(answer)
+    };
+    let one = |body: &[u8]| [b"0800\x40\0\0\0\0\0\0\0", body].concat();
+    assert_eq!(packed(b"0800\0\0\0\0\0\0\0"), "message too short (2)");
+    assert_eq!(packed(b"08x0\0\0\0\0\0\0\0\0"), "MTI has a non-digit (3) at byte 2");
+    assert_eq!(packed(b"0800\x80\0\0\0\0\0\0\0"), "second or third bitmap incomplete (4) at byte 12");
+    assert_eq!(packed(&one(b"1")), "field 2: length digits or content run past the end (5) at byte 12");
+    assert_eq!(packed(&one(b"1x")), "field 2: a length byte is not 0-9 (6) at byte 12");
+    assert_eq!(packed(&one(b"20")), "field 2: length over the table's (7) at byte 12");
+    assert_eq!(packed(&one(b"021")), "field 2: length digits or content run past the end (5) at byte 12");
+    assert_eq!(packed(&one(b"01x")), "field 2: not digits (21) at byte 12");
+    assert_eq!(packed(&one(b"01\x80")), "field 2: not digits (21) at byte 12");
+    assert_eq!(packed(b"0800\0\0\0\0\0\x10\0\x0001\x80"), "field 44: text byte over 0x7F (8) at byte 12");
+    let mut short = [0xA5; 11];
+    let refusal = pack(&one(b"017"), &mut short).unwrap_err();
+    assert_eq!((refusal.to_string().as_str(), refusal.field(), refusal.position()), ("output too short (14)", 0, 0));
+    assert_eq!((refusal.within(), short), (Within::Nothing, [0xA5; 11]));
+    assert_eq!(words(pack(&one(b"01x"), &mut [])), "field 2: not digits (21) at byte 12");
+}
+
+#[test]
+fn unpacking() {
+    let mut out = [0xA5; 64];
+    let mut unpacked = |input: &[u8]| {
+        let answer = unpack(input, &mut out);
+        assert_eq!(out, [0xA5; 64]);
+        words(answer)
+    };
+    let one = |body: &[u8]| [b"\x08\0\x40\0\0\0\0\0\0\0", body].concat();
+    let spoilt = "BCD half-byte over 9, or spare leading digit not 0 (22)";
+    assert_eq!(unpacked(b"\x08\0\0\0\0\0\0\0\0"), "message too short (2)");
+    assert_eq!(unpacked(b"\x0A\0\0\0\0\0\0\0\0\0"), format!("{spoilt} at byte 0"));
+    assert_eq!(unpacked(b"\x08\xA0\0\0\0\0\0\0\0\0"), format!("{spoilt} at byte 1"));
+    assert_eq!(unpacked(b"\x08\0\x80\0\0\0\0\0\0\0"), "second or third bitmap incomplete (4) at byte 10");
+    assert_eq!(unpacked(&one(b"")), "field 2: length digits or content run past the end (5) at byte 10");
+    assert_eq!(unpacked(&one(b"\x1A")), format!("field 2: {spoilt} at byte 10"));
+    assert_eq!(unpacked(&one(b"\x20")), "field 2: length over the table's (7) at byte 10");
+    assert_eq!(unpacked(&one(b"\x03\x01")), "field 2: length digits or content run past the end (5) at byte 10");
+    assert_eq!(unpacked(&one(b"\x03\x11\x23")), format!("field 2: {spoilt} at byte 10"));
+    assert_eq!(unpacked(&one(b"\x03\x01\x2A")), format!("field 2: {spoilt} at byte 10"));
+    assert_eq!(unpacked(b"\x08\0\0\0\0\0\x10\0\0\0\x10\0"), format!("field 36: {spoilt} at byte 10"));
+    assert_eq!(unpacked(b"\x08\0\0\0\0\0\0\x10\0\0\x01\x80"), "field 44: text byte over 0x7F (8) at byte 10");
+    let mut short = [0xA5; 14];
+    let refusal = unpack(&one(b"\x01\x07"), &mut short).unwrap_err();
+    assert_eq!((refusal.to_string().as_str(), refusal.field(), refusal.position()), ("output too short (14)", 0, 0));
+    assert_eq!((refusal.within(), short), (Within::Nothing, [0xA5; 14]));
+    assert_eq!(words(unpack(&one(b"\x01\x0A"), &mut [])), format!("field 2: {spoilt} at byte 10"));
 }
 
 #[test]
@@ -146,7 +203,7 @@ fn a_whole_message() {
 
 #[test]
 fn converting() {
-    assert_eq!(words(bcd::encode(b"1x")), "BCD source not digits (21)");
+    assert_eq!(words(bcd::encode(b"1x")), "not digits (21)");
     assert_eq!(words(bcd::decode(&[0x1A], 2)), "BCD half-byte over 9, or spare leading digit not 0 (22)");
     assert_eq!(words(bcd::decode(&[0x11], 1)), "BCD half-byte over 9, or spare leading digit not 0 (22)");
     assert_eq!(words(bcd::decode(&[0x12], usize::MAX)), "byte count wrong for the digits asked (23)");

@@ -1,7 +1,7 @@
 //! Made messages, and messages with a byte changed: what is read is written back to the byte, and every way to a field agrees.
 
 use obolchime::length::{self, Encoding};
-use obolchime::{bcd, ebcdic, look_up, read, write_clean, write_exact, Notes};
+use obolchime::{bcd, ebcdic, look_up, pack, read, unpack, write_clean, write_exact, Notes, Translated};
 
 /// Numbers that look random and are the same on each run (xorshift).
 struct Dice(u64);
@@ -74,6 +74,56 @@ fn what_is_read_is_written_back() {
             assert_eq!(look_up(&input, message.notes(), number).ok(), walked);
         }
     }
+}
+
+#[test]
+fn what_is_packed_comes_back() {
+    let mut dice = Dice(0x9AC4ED);
+    for _ in 0..2000 {
+        let bytes = some_message(&mut dice);
+        let spare: Vec<u8> = (0..dice.below(4)).map(|_| dice.below(256) as u8).collect();
+        let mut packed = vec![0xEE; bytes.len()];
+        let there = pack(&[bytes.as_slice(), &spare].concat(), &mut packed).expect("all its contents of class n are digits");
+        assert_eq!(there.used, bytes.len());
+        assert!(packed[there.written..].iter().all(|&byte| byte == 0xEE));
+        packed.truncate(there.written);
+        let mut plain = vec![0xEE; 2 * packed.len()];
+        let back = unpack(&[packed.as_slice(), &spare].concat(), &mut plain).expect("it was packed");
+        assert_eq!(back, Translated { used: there.written, written: there.used });
+        assert_eq!(plain[..back.written], bytes);
+        assert!(plain[back.written..].iter().all(|&byte| byte == 0xEE));
+    }
+}
+
+#[test]
+fn a_changed_byte_is_unpacked_or_refused() {
+    let mut dice = Dice(0x8583);
+    let (mut accepted, mut refused) = (0, 0);
+    for _ in 0..20000 {
+        let bytes = some_message(&mut dice);
+        let mut input = vec![0; bytes.len()];
+        let size = pack(&bytes, &mut input).unwrap().written;
+        input.truncate(size);
+        let at = dice.below(input.len().min(40));
+        input[at] = dice.below(256) as u8;
+        let mut plain = vec![0; 2 * input.len()];
+        match unpack(&input, &mut plain) {
+            Ok(done) => {
+                accepted += 1;
+                let mut again = vec![0; done.used];
+                let back = pack(&plain[..done.written], &mut again);
+                assert_eq!(back, Ok(Translated { used: done.written, written: done.used }));
+                assert_eq!(again, input[..done.used]);
+                assert_eq!(read(&plain).unwrap().used(), done.written);
+            }
+            Err(refusal) => {
+                refused += 1;
+                assert!([4, 5, 7, 8, 22].contains(&refusal.number()), "{refusal}");
+                assert!(refusal.position() <= input.len());
+            }
+        }
+    }
+    assert!(accepted > 1000 && refused > 1000, "{accepted} accepted, {refused} refused");
 }
 
 #[test]

@@ -13,6 +13,7 @@
 //     field NUMBER BYTES              pan BYTES       date BYTES       time BYTES       currency BYTES
 //     read ROOM BYTES                 look-up NUMBER VALUES NOTES             required VALUES NOTES
 //     write-exact ROOM VALUES NOTES   write-clean ROOM VALUES NOTES
+//     pack ROOM BYTES                 unpack ROOM BYTES
 //
 // Any other line is no question, and so is one with a number that no 64 bits hold, with more bytes or room than 2,048, or longer than
 // 8,191 bytes. Reading goes on behind it.
@@ -24,6 +25,7 @@ use libc::STDIN_FILENO;
 use libc::STDOUT_FILENO;
 use message_lookup::Found;
 use message_reader::ReadAnswer;
+use packed_link::Translated;
 use refusal::Checked;
 use refusal::Output;
 use refusal::Refusal;
@@ -41,12 +43,12 @@ const ROOM: usize = 2048;
 const NO_BYTES: usize = 2049;
 
 // The names of the questions. A question goes by its place here.
-const NAMES: [u8; 168] =
-    *b"bcd-encode bcd-decode ebcdic-encode ebcdic-decode length-encode write-exact write-clean read look-up length-decode bcd-bytes class currency field pan date time required";
+const NAMES: [u8; 180] =
+    *b"bcd-encode bcd-decode ebcdic-encode ebcdic-decode length-encode write-exact write-clean read pack unpack look-up length-decode bcd-bytes class currency field pan date time required";
 
 // The form of each, in the same order: a letter for each word behind the name, `r` for a room, `n` for a number, `e` for an encoding,
 // `c` for a class, `b` for bytes.
-const FORMS: [u8; 55] = *b"rb rnb rb rb renn rbb rbb rb nbb enb n cb b nb b b b bb";
+const FORMS: [u8; 61] = *b"rb rnb rb rb renn rbb rbb rb rb rb nbb enb n cb b nb b b b bb";
 
 const ENCODINGS: [u8; 16] = *b"ascii bcd ebcdic";
 
@@ -68,25 +70,29 @@ const WRITE_CLEAN: usize = 6;
 
 const READ: usize = 7;
 
-const LOOK_UP: usize = 8;
+const PACK: usize = 8;
 
-const LENGTH_DECODE: usize = 9;
+const UNPACK: usize = 9;
 
-const BCD_BYTES: usize = 10;
+const LOOK_UP: usize = 10;
 
-const CLASS: usize = 11;
+const LENGTH_DECODE: usize = 11;
 
-const CURRENCY: usize = 12;
+const BCD_BYTES: usize = 12;
 
-const FIELD: usize = 13;
+const CLASS: usize = 13;
 
-const PAN: usize = 14;
+const CURRENCY: usize = 14;
 
-const DATE: usize = 15;
+const FIELD: usize = 15;
 
-const TIME: usize = 16;
+const PAN: usize = 16;
 
-const REQUIRED: usize = 17;
+const DATE: usize = 17;
+
+const TIME: usize = 18;
+
+const REQUIRED: usize = 19;
 
 fn main() {
     let mut left: usize = usize::MAX;
@@ -491,7 +497,7 @@ fn print_asked(line: &[u8], at: usize, values: &[u8], notes: &[u8])
 fn print_answer(line: &[u8], question: usize, room: usize, values: &[u8], notes: &[u8])
     requires { ⌜ room ≤ 2048 ⌝ }
 {
-    if question <= READ {
+    if question <= UNPACK {
         let mut space = lent_space();
         let out = &mut space[0..room];
         print_writing(line, question, values, notes, out);
@@ -512,6 +518,10 @@ fn print_answer(line: &[u8], question: usize, room: usize, values: &[u8], notes:
 
 // The routines that write.
 fn print_writing(line: &[u8], question: usize, values: &[u8], notes: &[u8], out: &mut [u8]) {
+    if PACK <= question {
+        print_translated(translate(question, values, out));
+        return;
+    }
     if question == READ {
         print_reading(message_reader::read(values, out));
         return;
@@ -576,6 +586,13 @@ fn write_length(line: &[u8], out: &mut [u8]) -> Output {
     let encoding = encoding_of(word(line, 2));
     let digits = number_at(line, 3);
     encoding_length::encode(number_at(line, 4), digits, encoding, out)
+}
+
+fn translate(question: usize, bytes: &[u8], out: &mut [u8]) -> Translated {
+    if question == PACK {
+        return packed_link::pack(bytes, out);
+    }
+    packed_link::unpack(bytes, out)
 }
 
 fn print_cleaning(values: &[u8], notes: &[u8], out: &mut [u8]) {
@@ -655,6 +672,16 @@ fn print_reading(answer: ReadAnswer) {
             print_named(b", bitmaps ", bitmaps);
         }
         ReadAnswer::Refused(why) => print_refusal(why),
+    }
+}
+
+fn print_translated(answer: Translated) {
+    match answer {
+        Translated::Done { used, written } => {
+            print_named(b"used ", used);
+            print_named(b" written ", written);
+        }
+        Translated::Refused(why) => print_refusal(why),
     }
 }
 

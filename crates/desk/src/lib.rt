@@ -1,10 +1,11 @@
-// The desk: what programs in C, Rust or another language link. The reader, the writers, lookup, checks and conversions under plain
-// names, their answers told in the terms of desk_terms.
+// The desk: what programs in C, Rust or another language link. The reader, the writers, lookup, the packed link, checks and conversions
+// under plain names, their answers told in the terms of desk_terms.
 use desk_terms::Cleaned;
 use desk_terms::Found;
 use desk_terms::Judgement;
 use desk_terms::Measurement;
 use desk_terms::Reading;
+use desk_terms::Translation;
 use desk_terms::Written;
 ghost use mathlib.Core.Path.{_≡_};
 ghost use mathlib.Core.List.{map};
@@ -17,11 +18,13 @@ ghost use Rattle.message_notes.specs.Dialect.{dialect};
 ghost use Rattle.message_reader.specs.Reader.{toldRead, readAnswer, notesAfter};
 ghost use Rattle.message_lookup.specs.Lookup.{toldFound, lookedUp};
 ghost use Rattle.message_write.specs.Written.{exactAnswer, exactOutput, cleanAnswer, cleanOutput, cleanPadded};
+ghost use Rattle.packed_field.specs.declared.Script.{Script};
+ghost use Rattle.packed_link.specs.Link.{toldLink, linkAnswer, linkOutput};
 ghost use Rattle.validation_pan.specs.Pan.{panFault};
 ghost use Rattle.validation_dates.specs.Dates.{dateFault, timeFault};
 ghost use Rattle.validation_field.specs.Checks.{fieldFault};
 ghost use Rattle.validation_required.specs.Required.{requiredIn};
-ghost use Rattle.desk_terms.specs.Terms.{reading, written, cleaned, found, measurement, judgement, encodedBy, encodedInto, decodedBy};
+ghost use Rattle.desk_terms.specs.Terms.{reading, written, cleaned, found, translation, measurement, judgement, encodedBy, encodedInto, decodedBy};
 
 #[no_mangle]
 pub extern "C" fn obol_read(message: &[u8], notes: &mut [u8]) -> Reading
@@ -55,6 +58,22 @@ pub extern "C" fn obol_look_up(values: &[u8], notes: &[u8], number: usize) -> Fo
     ensures { λ r. ⌜ r ≡ found (toldFound (lookedUp (dialect house) (now (values .entry)) (now (notes .entry)) number)) ⌝ }
 {
     desk_terms::tell_found(message_lookup::look_up(values, notes, number))
+}
+
+#[no_mangle]
+pub extern "C" fn obol_pack(plain: &[u8], out: &mut [u8]) -> Translation
+    ensures answers { λ r. ⌜ r ≡ translation (toldLink (linkAnswer Script.Plain house 3 (now (plain .entry)) (now (out .entry)))) ⌝ }
+    ensures writes { λ _. ⌜ now (out .exit) ≡ linkOutput Script.Plain house 3 (now (plain .entry)) (now (out .entry)) ⌝ }
+{
+    desk_terms::tell_translated(packed_link::pack(plain, out))
+}
+
+#[no_mangle]
+pub extern "C" fn obol_unpack(packed: &[u8], out: &mut [u8]) -> Translation
+    ensures answers { λ r. ⌜ r ≡ translation (toldLink (linkAnswer Script.Packed house 3 (now (packed .entry)) (now (out .entry)))) ⌝ }
+    ensures writes { λ _. ⌜ now (out .exit) ≡ linkOutput Script.Packed house 3 (now (packed .entry)) (now (out .entry)) ⌝ }
+{
+    desk_terms::tell_translated(packed_link::unpack(packed, out))
 }
 
 #[no_mangle]

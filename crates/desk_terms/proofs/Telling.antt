@@ -11,11 +11,14 @@ use Rattle.message_reader.specs.Reader.{toldRead}
 use Rattle.message_reader.specs.declared.ReadAnswer.{ReadAnswer}
 use Rattle.message_lookup.specs.Lookup.{toldFound}
 use Rattle.message_lookup.specs.declared.Found.{Found as LookedUp}
-use Rattle.desk_terms.specs.Terms.{reading, written, cleaned, found, measurement, judgement}
+use Rattle.packed_link.specs.Link.{toldLink}
+use Rattle.packed_link.specs.declared.Translated.{Translated}
+use Rattle.desk_terms.specs.Terms.{reading, written, cleaned, found, translation, measurement, judgement}
 use Rattle.desk_terms.specs.declared.Reading.{Reading}
 use Rattle.desk_terms.specs.declared.Written.{Written}
 use Rattle.desk_terms.specs.declared.Cleaned.{Cleaned}
 use Rattle.desk_terms.specs.declared.Found.{Found}
+use Rattle.desk_terms.specs.declared.Translation.{Translation}
 use Rattle.desk_terms.specs.declared.Measurement.{Measurement}
 use Rattle.desk_terms.specs.declared.Judgement.{Judgement}
 
@@ -30,6 +33,9 @@ cleaned-told r a b s q h e k = h ∙ rw (e, k)
 
 pub found-told : (r : Found) (a b : LookedUp) → r ≡ found (toldFound a) → a ≡ b → r ≡ found (toldFound b)
 found-told r a b h e = h ∙ ap (λ (x : LookedUp). found (toldFound x)) e
+
+pub translated-told : (r : Translation) (a b : Translated) → r ≡ translation (toldLink a) → a ≡ b → r ≡ translation (toldLink b)
+translated-told r a b h e = h ∙ ap (λ (x : Translated). translation (toldLink x)) e
 
 pub measured-told : (r : Measurement) (a b : Measured) → r ≡ measurement (toldLength a) → a ≡ b → r ≡ measurement (toldLength b)
 measured-told r a b h e = h ∙ ap (λ (x : Measured). measurement (toldLength x)) e

@@ -4,6 +4,7 @@
 --   written t             == what a writing or a conversion told
 --   cleaned t s           == what a cleaning told that padded the set of fields s: what a writing tells, and s in three words
 --   found t               == what a lookup told
+--   translation t         == what carrying a message over the packed link told
 --   measurement t         == what the decoding of a length told
 --   judgement t           == what a check told
 --   wordAt s i            == the eight bytes of s from i on, as one number, the first the highest
@@ -33,6 +34,7 @@ use Rattle.desk_terms.specs.declared.Reading.{Reading}
 use Rattle.desk_terms.specs.declared.Written.{Written}
 use Rattle.desk_terms.specs.declared.Cleaned.{Cleaned}
 use Rattle.desk_terms.specs.declared.Found.{Found}
+use Rattle.desk_terms.specs.declared.Translation.{Translation}
 use Rattle.desk_terms.specs.declared.Measurement.{Measurement}
 use Rattle.desk_terms.specs.declared.Judgement.{Judgement}
 
@@ -79,6 +81,16 @@ found t =
       position = t .refused .position;
       offset = getD (t .values) 0 0;
       length = getD (t .values) 1 0;
+    }
+
+unfoldable pub translation : Told → Translation
+translation t =
+    record {
+      number = t .refused .number;
+      field = t .refused .field;
+      position = t .refused .position;
+      used = getD (t .values) 0 0;
+      written = getD (t .values) 1 0;
     }
 
 unfoldable pub measurement : Told → Measurement

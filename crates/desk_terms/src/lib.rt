@@ -4,6 +4,7 @@ use bitmap::FieldSet;
 use encoding_length::Encoding;
 use encoding_length::Measured;
 use message_reader::ReadAnswer;
+use packed_link::Translated;
 use refusal::Checked;
 use refusal::Output;
 use refusal::Refusal;
@@ -12,7 +13,8 @@ ghost use Rattle.refusal.specs.Refusals.{told, toldChecked};
 ghost use Rattle.encoding_length.specs.Lengths.{toldLength};
 ghost use Rattle.message_reader.specs.Reader.{toldRead};
 ghost use Rattle.message_lookup.specs.Lookup.{toldFound};
-ghost use Rattle.desk_terms.specs.Terms.{reading, written, cleaned, found, measurement, judgement, encodedBy, encodedInto, decodedBy};
+ghost use Rattle.packed_link.specs.Link.{toldLink};
+ghost use Rattle.desk_terms.specs.Terms.{reading, written, cleaned, found, translation, measurement, judgement, encodedBy, encodedInto, decodedBy};
 
 // What reading tells: the bytes used and the count of bitmaps.
 #[repr(C)]
@@ -54,6 +56,16 @@ pub struct Found {
     pub position: u64,
     pub offset: u64,
     pub length: u64,
+}
+
+// What carrying a message over the packed link tells: the bytes used of the input, and the bytes written.
+#[repr(C)]
+pub struct Translation {
+    pub number: u64,
+    pub field: u64,
+    pub position: u64,
+    pub used: u64,
+    pub written: u64,
 }
 
 // What decoding a length tells: the length.
@@ -181,6 +193,28 @@ pub fn tell_found(answer: message_lookup::Found) -> Found
             position: why.position as u64,
             offset: 0,
             length: 0,
+        },
+    }
+}
+
+// A message carried over the packed link, told.
+pub fn tell_translated(answer: Translated) -> Translation
+    ensures { λ r. ⌜ r ≡ translation (toldLink answer) ⌝ }
+{
+    match answer {
+        Translated::Done { used, written } => Translation {
+            number: 0,
+            field: 0,
+            position: 0,
+            used: used as u64,
+            written: written as u64,
+        },
+        Translated::Refused(why) => Translation {
+            number: why.number as u64,
+            field: why.field as u64,
+            position: why.position as u64,
+            used: 0,
+            written: 0,
         },
     }
 }

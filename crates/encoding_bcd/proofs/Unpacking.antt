@@ -42,15 +42,16 @@ pub unpacked-at : (n : ℕ) (s : List ℕ) (i : ℕ) → getD (spread s) (n % 2 
 unfolding unpacked
 unpacked-at n s i = rw getD-drop
 
--- isBcd as facts
-pub high-over : (b : ℕ) → 9 < b / 16 → isBcd b ≡ false
+-- the ends of `is_bcd`
+pub high-over : (b : ℕ) → 9 < b / 16 → false ≡ isBcd b
 unfolding isBcd
 high-over b h = rw (lt-leb (b / 16) 9 h)
 
-pub low-over : (b : ℕ) → b / 16 ≤ 9 → 9 < b % 16 → isBcd b ≡ false
+pub high-good : (b : ℕ) → b / 16 ≤ 9 → leb (b % 16) 9 ≡ isBcd b
 unfolding isBcd
-low-over b h k = rw (le-leb (b / 16) 9 h, lt-leb (b % 16) 9 k)
+high-good b h = rw (le-leb (b / 16) 9 h)
 
+-- isBcd as facts
 pub none-over : (b : ℕ) → b / 16 ≤ 9 → b % 16 ≤ 9 → isBcd b ≡ true
 unfolding isBcd
 none-over b h k = rw (le-leb (b / 16) 9 h, le-leb (b % 16) 9 k)

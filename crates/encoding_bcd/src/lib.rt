@@ -112,7 +112,8 @@ fn value_at(src: &[u8], j: usize) -> u8
     src[j - odd] - 48
 }
 
-fn decode_fault(src: &[u8], digits: usize) -> u8
+// What is wrong with src as the BCD of so many digits: 23, then 22; 0 where nothing is.
+pub fn decode_fault(src: &[u8], digits: usize) -> u8
     ensures { λ r. ⌜ r ≡ decodeFault digits (now (src .entry)) ⌝ }
 {
     if src.len() != bytes_of(digits) {
@@ -133,15 +134,22 @@ fn all_bcd(src: &[u8]) -> bool
 {
     let mut i: usize = 0;
     while i < src.len() {
-        if 9 < src[i] / 16 {
-            return false;
-        }
-        if 9 < src[i] % 16 {
+        if !is_bcd(src[i]) {
             return false;
         }
         i += 1;
     }
     true
+}
+
+// Whether neither half of b is over 9.
+pub fn is_bcd(b: u8) -> bool
+    ensures { λ r. ⌜ r ≡ isBcd b ⌝ }
+{
+    if 9 < b / 16 {
+        return false;
+    }
+    b % 16 <= 9
 }
 
 // Whether the spare leading digit is 0, where the count is odd and there is one.

@@ -31,7 +31,7 @@ module _ (t : Table) (f : ℕ) (ds c : List ℕ) (i : Item t f ds c) where
   empty [] h = refl
   empty (x ∷ l) h = absurd (omega arith)
 
-  digits-are : decimal (t .width f) (length c) ≡ ds
+  pub digits-are : decimal (t .width f) (length c) ≡ ds
   digits-are =
       by-eq (t .width f) 0
       (λ z. empty (decimal (t .width f) (length c)) (digits-length 10 48 (t .width f) (length c) ∙ z) ∙ sym (empty ds (i .width ∙ z)))

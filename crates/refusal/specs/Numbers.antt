@@ -8,7 +8,7 @@ use Prim.Native.Nat.{ℕ}
 abbrev pub notesTooShort : ℕ
 notesTooShort = 1
 
--- 2: the message is under 12 bytes
+-- 2: the message is under 12 bytes; a packed one under 10 (02, P3)
 abbrev pub messageTooShort : ℕ
 messageTooShort = 2
 
@@ -84,11 +84,11 @@ requiredMissing = 19
 abbrev pub dateOrTimeWrong : ℕ
 dateOrTimeWrong = 20
 
--- 21: a BCD source is not digits
+-- 21: a BCD source is not digits, nor a plain n content that is to be packed (02, P3)
 abbrev pub notDigits : ℕ
 notDigits = 21
 
--- 22: a BCD half-byte is over 9, or the spare leading digit is not 0
+-- 22: a BCD half-byte is over 9, or the spare leading digit is not 0; so in packed messages (02, P3)
 abbrev pub notBcd : ℕ
 notBcd = 22
 

@@ -3,9 +3,9 @@ use mathlib.Core.Path.{_≡_}
 use Prim.Native.Nat.{_≤_, _-_}
 use lib.ListN.{length, drop}
 use Rattle.octets.specs.Lists.{all}
+use Rattle.octets.proofs.Cases.{tested-true, tested-false}
 use Rattle.octets.proofs.Lists.{all-next, all-false, all-true}
 use Rattle.encoding_bcd.specs.Bcd.{isBcd}
-use Rattle.encoding_bcd.proofs.Unpacking.{high-over, low-over, none-over}
 use borrow.Author.Needs.{needs}
 use Rattle.encoding_bcd.proofs.all_bcd.Statement.{statement}
 use Rattle.encoding_bcd.proofs.all_bcd.Tie as tie
@@ -19,17 +19,14 @@ abbrev μ-loop : tie.MeasureT-loop
 loop-holds : tie.Need-loop-holds Inv-loop μ-loop
 loop-holds c = search needs
 
-shared-slice-read-if1 : tie.Need-shared-slice-read-if1 Inv-loop μ-loop
-shared-slice-read-if1 c = search needs
+shared-slice-read-is-bcd : tie.Need-shared-slice-read-is-bcd Inv-loop μ-loop
+shared-slice-read-is-bcd c = search needs
+
+is-bcd-requires : tie.Need-is-bcd-requires Inv-loop μ-loop
+is-bcd-requires c κs = search needs
 
 returns : tie.Need-returns Inv-loop μ-loop
-returns c = search (all-false, high-over, needs)
-
-shared-slice-read-if2 : tie.Need-shared-slice-read-if2 Inv-loop μ-loop
-shared-slice-read-if2 c = search needs
-
-returns-2 : tie.Need-returns-2 Inv-loop μ-loop
-returns-2 c = search (all-false, low-over, needs)
+returns c = search (all-false, tested-false, needs)
 
 add-i : tie.Need-add-i Inv-loop μ-loop
 add-i c = search needs
@@ -38,10 +35,10 @@ loop-less : tie.Need-loop-less Inv-loop μ-loop
 loop-less c = search needs
 
 loop-again : tie.Need-loop-again Inv-loop μ-loop
-loop-again c = (search needs, search (all-next, none-over, needs))
+loop-again c = (search needs, search (all-next, tested-true, needs))
 
-returns-3 : tie.Need-returns-3 Inv-loop μ-loop
-returns-3 c = search (all-true, needs)
+returns-2 : tie.Need-returns-2 Inv-loop μ-loop
+returns-2 c = search (all-true, needs)
 
 pub all-bcd-spec : {M : Type 1} → statement M
 all-bcd-spec =
@@ -50,11 +47,10 @@ all-bcd-spec =
     Inv-loop
     μ-loop
     loop-holds
-    shared-slice-read-if1
+    shared-slice-read-is-bcd
+    is-bcd-requires
     returns
-    shared-slice-read-if2
-    returns-2
     add-i
     loop-less
     loop-again
-    returns-3)
+    returns-2)
