@@ -393,7 +393,7 @@ fn decode_hex(text: &[u8], out: &mut [u8]) -> usize {
 // The value of a hexadecimal digit; 16 where it is none.
 fn hex_value(b: u8) -> u8 {
     match b {
-        b'0'..=b'9' => b - 48,
+        b'0'..=b'9' => b - b'0',
         b'A'..=b'F' => b - 55,
         b'a'..=b'f' => b - 87,
         _ => 16,

@@ -109,7 +109,7 @@ fn value_at(src: &[u8], j: usize) -> u8
     if j < odd {
         return 0;
     }
-    src[j - odd] - 48
+    src[j - odd] - b'0'
 }
 
 // What is wrong with src as the BCD of so many digits: 23, then 22; 0 where nothing is.
@@ -185,7 +185,7 @@ fn digit_at(src: &[u8], j: usize) -> u8
 {
     let b = src[j / 2];
     if j % 2 == 0 {
-        return 48 + b / 16;
+        return b'0' + b / 16;
     }
-    48 + b % 16
+    b'0' + b % 16
 }

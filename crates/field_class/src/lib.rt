@@ -44,7 +44,7 @@ fn is_signed(content: &[u8]) -> bool
     if !is_sign(content[0]) {
         return false;
     }
-    octets::all_between(&content[1..], 48, 57)
+    octets::all_between(&content[1..], b'0', b'9')
 }
 
 // Whether the byte may stand in a content of the class; of x+n, after its sign.
@@ -52,13 +52,13 @@ fn is_allowed(class: Class, b: u8) -> bool
     ensures { λ r. ⌜ r ≡ allows class b ⌝ }
 {
     match class {
-        Class::N => octets::is_between(b, 48, 57),
+        Class::N => octets::is_between(b, b'0', b'9'),
         Class::A => is_letter_or_space(b),
         Class::An => is_letter_digit_or_space(b),
         Class::Ans => octets::is_between(b, 32, 126),
         Class::Ns => is_visible_no_letter(b),
-        Class::Z => octets::is_between(b, 48, 63),
-        Class::Xn => octets::is_between(b, 48, 57),
+        Class::Z => octets::is_between(b, b'0', b'?'),
+        Class::Xn => octets::is_between(b, b'0', b'9'),
         Class::B => true,
     }
 }
@@ -93,7 +93,7 @@ fn is_letter_or_space(b: u8) -> bool
 fn is_letter_digit_or_space(b: u8) -> bool
     ensures { λ r. ⌜ r ≡ allows Class.An b ⌝ }
 {
-    if octets::is_between(b, 48, 57) {
+    if octets::is_between(b, b'0', b'9') {
         return true;
     }
     is_letter_or_space(b)

@@ -46,7 +46,7 @@ fn read_item(rest: &[u8], width: usize, most: usize, class: Class) -> FieldRead
         return FieldRead::Refused(refusal::PAST_THE_END);
     }
     let digits = &rest[..width];
-    if !octets::all_between(digits, 48, 57) {
+    if !octets::all_between(digits, b'0', b'9') {
         return FieldRead::Refused(refusal::LENGTH_NOT_DIGITS);
     }
     let length = content_length(digits, width, most);
@@ -84,5 +84,5 @@ fn is_allowed(class: Class, content: &[u8]) -> bool
     if field_table::is_binary(class) {
         return true;
     }
-    octets::all_between(content, 0, 127)
+    octets::all_between(content, 0, octets::LAST_ASCII)
 }

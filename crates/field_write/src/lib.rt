@@ -84,7 +84,7 @@ fn text_fault(class: Class, content: &[u8]) -> u8
     if field_table::is_binary(class) {
         return 0;
     }
-    if octets::all_between(content, 0, 127) {
+    if octets::all_between(content, 0, octets::LAST_ASCII) {
         return 0;
     }
     refusal::TEXT_NOT_ASCII

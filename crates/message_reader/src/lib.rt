@@ -96,7 +96,7 @@ fn read_head(message: &[u8]) -> BitmapsRead
             position: 0,
         });
     }
-    let digits = octets::lead_between(&message[..4], 48, 57);
+    let digits = octets::lead_between(&message[..4], b'0', b'9');
     if digits < 4 {
         return BitmapsRead::Refused(Refusal {
             number: refusal::MTI_NOT_DIGITS,

@@ -15,6 +15,7 @@
 --
 --   bodyOf t v es               == the fields of the entries es with their contents padded where they are short, one after the other
 --   messageOf t v mti m es      == the message of them
+--   messageIn t v n             == the message of the fields that the notes n list, with their head's MTI and count
 --   entriesBy t v r n, answerBy t v r n out, outputBy t v r n out, paddedBy t v r n out
 --                               == what a writer by the rule r passes, answers, leaves in its output and pads, by the table t
 --   sizeIn t es                 == how many bytes they take, reckoned from their lengths; a length that no note can hold counts as 0
@@ -39,12 +40,12 @@ use Rattle.field_write.specs.Fields.{exactFault, cleanFault, writtenSize, longe
 use Rattle.bitmap.specs.Bitmaps.{noFields, setOf}
 use Rattle.message_language.specs.Language.{Entry}
 use Rattle.message_contents.specs.Contents.{contentsIn, spelt, messageWith, cleanedIn, shortIn}
-use Rattle.message_notes.specs.Dialect.{Dialect, dialect}
+use Rattle.message_notes.specs.Dialect.{Dialect, dialect, plainForm}
 use Rattle.message_notes.specs.Notes.{mtiIn, countIn}
 use Rattle.message_walk.specs.declared.Rule.{Rule}
 use Rattle.message_walk.specs.declared.Walked.{Walked}
 use Rattle.message_walk.specs.declared.Walked.the-variants.{Ended, Refused as WalkRefused}
-use Rattle.message_walk.specs.Walk.{Fault, walked, entriesIn}
+use Rattle.message_walk.specs.Walk.{Fault, walked, entriesIn, listedIn}
 use Rattle.message_walk.specs.Faults.{within, faultBy}
 
 -- 01: "field: 9, 10, 11, 12, 8", of which 11, 12 and 8 are asked of the field
@@ -62,6 +63,9 @@ bodyOf t v es = spelt t (cleanedIn t (contentsIn v es))
 
 unfoldable pub messageOf : Table → List ℕ → List ℕ → ℕ → List Entry → List ℕ
 messageOf t v mti m es = messageWith t mti m (cleanedIn t (contentsIn v es))
+
+abbrev pub messageIn : Table → List ℕ → List ℕ → List ℕ
+messageIn t v n = messageOf t v (mtiIn n) (countIn n) (listedIn plainForm n)
 
 unfoldable pub cleanMessage : Dialect → List ℕ → List ℕ → List ℕ
 cleanMessage d v n = messageOf (d .table) v (mtiIn n) (countIn n) (entriesIn d (cleanly d v) n)

@@ -20,10 +20,10 @@ ghost use Rattle.field_write.specs.Fields.{isShort};
 ghost use Rattle.bitmap.specs.Bitmaps.{noFields, withField, setOf};
 ghost use Rattle.message_contents.specs.Contents.{numbersOf};
 ghost use Rattle.message_notes.specs.Dialect.{plainForm, headSize, dialect};
-ghost use Rattle.message_notes.specs.Notes.{mtiIn, countIn};
+ghost use Rattle.message_notes.specs.Notes.{countIn};
 ghost use Rattle.message_walk.specs.Walk.{headNumber, ending, walked, fieldsOn, listedIn};
 ghost use Rattle.message_walk.specs.Faults.{asked, faultBy};
-ghost use Rattle.message_write.specs.Written.{answered, laidOut, exactAnswer, exactOutput, cleanAnswer, cleanOutput, paddedOn, cleanPadded, bodyOf, messageOf, entriesBy, answerBy, outputBy, paddedBy, sizeIn, sizeMost, shortOn, sizeOn};
+ghost use Rattle.message_write.specs.Written.{answered, laidOut, exactAnswer, exactOutput, cleanAnswer, cleanOutput, paddedOn, cleanPadded, bodyOf, messageIn, entriesBy, answerBy, outputBy, paddedBy, sizeIn, sizeMost, shortOn, sizeOn};
 
 // What the cleaning writer answers: as the exact one, and the set of the fields that it padded, empty where it refuses.
 pub struct Cleaned {
@@ -214,8 +214,8 @@ fn write_ended(
     requires { ⌜ fields .bits ≡ setOf (numbersOf (listedIn plainForm (now notes))) ⌝ }
     requires { ⌜ size ≡ sizeIn (decoded (now table)) (listedIn plainForm (now notes)) ⌝ }
     requires { ⌜ size ≤ sizeMost ⌝ }
-    ensures answers { λ r. ⌜ r ≡ answered (Walked.Ended at said) (messageOf (decoded (now (table .entry))) (now (values .entry)) (mtiIn (now (notes .entry))) (countIn (now (notes .entry))) (listedIn plainForm (now (notes .entry)))) (now (out .entry)) ⌝ }
-    ensures writes { λ _. ⌜ now (out .exit) ≡ laidOut (Walked.Ended at said) (messageOf (decoded (now (table .entry))) (now (values .entry)) (mtiIn (now (notes .entry))) (countIn (now (notes .entry))) (listedIn plainForm (now (notes .entry)))) (now (out .entry)) ⌝ }
+    ensures answers { λ r. ⌜ r ≡ answered (Walked.Ended at said) (messageIn (decoded (now (table .entry))) (now (values .entry)) (now (notes .entry))) (now (out .entry)) ⌝ }
+    ensures writes { λ _. ⌜ now (out .exit) ≡ laidOut (Walked.Ended at said) (messageIn (decoded (now (table .entry))) (now (values .entry)) (now (notes .entry))) (now (out .entry)) ⌝ }
 {
     let count = message_notes::count_in(notes);
     let length = 4 + 8 * count + size;
@@ -242,8 +242,8 @@ fn write_message(values: &[u8], notes: &[u8], fields: FieldSet, table: &[u16], o
     requires { ⌜ headNumber 3 (now notes) ≡ 0 ⌝ }
     requires { ⌜ listedIn plainForm (now notes) ≡ entriesBy (decoded (now table)) (now values) Rule.Clean (now notes) ⌝ }
     requires { ⌜ fields .bits ≡ setOf (numbersOf (listedIn plainForm (now notes))) ⌝ }
-    requires { ⌜ length (messageOf (decoded (now table)) (now values) (mtiIn (now notes)) (countIn (now notes)) (listedIn plainForm (now notes))) ≤ length (now out) ⌝ }
-    ensures { λ _. ⌜ now (out .exit) ≡ lay (messageOf (decoded (now (table .entry))) (now (values .entry)) (mtiIn (now (notes .entry))) (countIn (now (notes .entry))) (listedIn plainForm (now (notes .entry)))) (now (out .entry)) ⌝ }
+    requires { ⌜ length (messageIn (decoded (now table)) (now values) (now notes)) ≤ length (now out) ⌝ }
+    ensures { λ _. ⌜ now (out .exit) ≡ lay (messageIn (decoded (now (table .entry))) (now (values .entry)) (now (notes .entry))) (now (out .entry)) ⌝ }
 {
     let count = message_notes::count_in(notes);
     let maps = Bitmaps::of(count, fields).to_bytes();

@@ -8,6 +8,9 @@ ghost use Rattle.octets.specs.Lists.{all, between, lead, lay, placed};
 ghost use Rattle.octets.specs.Numbers.{areDigits, digits, decimal, decimalOf, bigEndian, bigEndianOf};
 ghost use Rattle.octets.specs.Numerals.{digitCount, numeral};
 
+// The last byte of ASCII.
+pub const LAST_ASCII: u8 = 127;
+
 // A byte as a number that can be reckoned with.
 pub fn wide(b: u8) -> usize
     ensures value { λ r. ⌜ r ≡ b ⌝ }
@@ -58,7 +61,7 @@ pub fn are_digits(n: usize, s: &[u8]) -> bool
     if s.len() != n {
         return false;
     }
-    all_between(s, 48, 57)
+    all_between(s, b'0', b'9')
 }
 
 // Copies all of src to the front of out. Where it does not fit, out is left as it is.
@@ -110,7 +113,7 @@ pub fn put_decimal(n: usize, w: usize, out: &mut [u8])
     if out.len() < w {
         return;
     }
-    put_digits(n, 10, 48, w, out);
+    put_digits(n, 10, b'0', w, out);
 }
 
 // Writes n in w bytes, the highest first: its last w bytes where it has more. Where they do not fit, out is left as it is.
@@ -159,10 +162,10 @@ fn digit_value(b: u8) -> usize
     ensures value { λ r. ⌜ r ≡ b - 48 ⌝ }
     ensures small { λ r. ⌜ r < 256 ⌝ }
 {
-    if b < 48 {
+    if b < b'0' {
         return 0;
     }
-    (b - 48) as usize
+    (b - b'0') as usize
 }
 
 // The number that big-endian bytes spell, up to eight of them; 0 where there are more.

@@ -204,7 +204,7 @@ fn is_content(s: &[u8], script: Script, class: Class, count: usize) -> bool
     if field_table::is_binary(class) {
         return true;
     }
-    octets::all_between(s, 0, 127)
+    octets::all_between(s, 0, octets::LAST_ASCII)
 }
 
 // Whether contents of that class are digits: class n and no other.

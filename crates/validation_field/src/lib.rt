@@ -48,7 +48,7 @@ fn value_fault(number: usize, content: &[u8]) -> u8
     if !is_amount_field(number) {
         return 0;
     }
-    if octets::all_between(content, 48, 48) {
+    if octets::all_between(content, b'0', b'0') {
         return refusal::AMOUNT_ZERO;
     }
     0

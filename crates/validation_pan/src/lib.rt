@@ -49,7 +49,7 @@ fn count_digits(s: &[u8]) -> usize
     let mut count: usize = 0;
     let mut i: usize = 0;
     while i < s.len() {
-        if octets::is_between(s[i], 48, 57) {
+        if octets::is_between(s[i], b'0', b'9') {
             count += 1;
             i += 1;
         } else {
@@ -68,7 +68,7 @@ fn luhn_remainder(s: &[u8]) -> usize
     let mut i = s.len();
     while 0 < i {
         let b = s[i - 1];
-        if octets::is_between(b, 48, 57) {
+        if octets::is_between(b, b'0', b'9') {
             sum = (sum + worth_of(b, doubles)) % 10;
             doubles = !doubles;
             i -= 1;
