@@ -5,9 +5,6 @@ use native.Mathlib.Omega.{arith}
 use Rattle.bitmap.proofs.chained.Statement.{statement}
 use Rattle.bitmap.proofs.chained.Tie as tie
 
-add-result : tie.Need-add-result
-add-result c = search needs
-
 returns : tie.Need-returns
 returns c = rw (c .if1 .taken)
 
@@ -15,4 +12,4 @@ returns-2 : tie.Need-returns-2
 returns-2 c = rw (c .if1 .left) (omega arith)
 
 pub chained-spec : {M : Type 1} → statement M
-chained-spec = tie.close (tie.spec add-result returns returns-2)
+chained-spec = tie.close (tie.spec (λ c. search needs) returns returns-2)

@@ -5,17 +5,11 @@ use borrow.Author.Needs.{needs}
 use Rattle.bitmap.proofs.has_field.Statement.{statement}
 use Rattle.bitmap.proofs.has_field.Tie as tie
 
-is-field-requires : tie.Need-is-field-requires
-is-field-requires c κs = search needs
-
 returns : tie.Need-returns
 returns c = search (no-field, needs)
-
-is-set-requires : tie.Need-is-set-requires
-is-set-requires c κs = search needs
 
 returns-2 : tie.Need-returns-2
 returns-2 c = search (field-bit, needs)
 
 pub has-field-spec : {M : Type 1} → statement M
-has-field-spec = tie.close (tie.spec is-field-requires returns is-set-requires returns-2)
+has-field-spec = tie.close (tie.spec (λ c κs. search needs) returns (λ c κs. search needs) returns-2)

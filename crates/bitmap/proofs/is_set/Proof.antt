@@ -8,23 +8,8 @@ use Rattle.bitmap.proofs.is_set.Tie as tie
 returns : tie.Need-returns
 returns c = search (bit-zero, needs)
 
-sub-k : tie.Need-sub-k
-sub-k c = search needs
-
 returns-2 : tie.Need-returns-2
 returns-2 c = search (bit-past, needs)
-
-sub-high : tie.Need-sub-high
-sub-high c = search needs
-
-shared-slice-read-result : tie.Need-shared-slice-read-result
-shared-slice-read-result c = search needs
-
-cast-result : tie.Need-cast-result
-cast-result c = search needs
-
-shr-result : tie.Need-shr-result
-shr-result c = search needs
 
 returns-3 : tie.Need-returns-3
 returns-3 c = search (bit-is, needs)
@@ -34,10 +19,10 @@ is-set-spec =
     tie.close
     (tie.spec
     returns
-    sub-k
+    (λ c. search needs)
     returns-2
-    sub-high
-    shared-slice-read-result
-    cast-result
-    shr-result
+    (λ c. search needs)
+    (λ c. search needs)
+    (λ c. search needs)
+    (λ c. search needs)
     returns-3)

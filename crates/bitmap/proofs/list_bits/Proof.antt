@@ -19,9 +19,6 @@ some c z = omega (arith, c .loop-test .taken)
 bit : (c : tie.In-loop Inv-loop μ-loop) → Bit (c .before .loop .rest)
 bit c = first-bit (c .before .loop .rest) (c .before .loop .inv .small) (some c)
 
-wide-requires : tie.Need-wide-requires Inv-loop μ-loop
-wide-requires c κs = search needs
-
 loop-holds : tie.Need-loop-holds Inv-loop μ-loop
 loop-holds c = search (listing-none, needs)
 
@@ -40,14 +37,8 @@ cast-numbers c = omega (arith, bit c)
 slice-write-numbers : tie.Need-slice-write-numbers Inv-loop μ-loop
 slice-write-numbers c = search (listing-fits, some c, needs)
 
-add-n : tie.Need-add-n Inv-loop μ-loop
-add-n c = search needs
-
 sub-rest : tie.Need-sub-rest Inv-loop μ-loop
 sub-rest c = omega (arith, bit c)
-
-shl-rest : tie.Need-shl-rest Inv-loop μ-loop
-shl-rest c = search needs
 
 sub-rest-2 : tie.Need-sub-rest-2 Inv-loop μ-loop
 sub-rest-2 c = omega (arith, bit c)
@@ -58,9 +49,6 @@ loop-less c = omega (arith, bit c)
 loop-again : tie.Need-loop-again Inv-loop μ-loop
 loop-again c = search (listing-more, some c, needs)
 
-same-length : tie.Need-same-length Inv-loop μ-loop
-same-length c = search needs
-
 returns : tie.Need-returns Inv-loop μ-loop
 returns c = listing-end _ _ _ _ _ _ (c .before .loop .inv) (search needs) (omega (arith, c .loop-test .left))
 
@@ -70,18 +58,18 @@ list-bits-spec =
     (tie.spec
     Inv-loop
     μ-loop
-    wide-requires
+    (λ c κs. search needs)
     loop-holds
     cast-i
     sub-i
     add-numbers
     cast-numbers
     slice-write-numbers
-    add-n
+    (λ c. search needs)
     sub-rest
-    shl-rest
+    (λ c. search needs)
     sub-rest-2
     loop-less
     loop-again
-    same-length
+    (λ c. search needs)
     returns)

@@ -12,53 +12,17 @@ Inv-loop bits end numbers₀ n₀ at₀ numbers n at = Filling bits numbers at n
 abbrev μ-loop : tie.MeasureT-loop
 μ-loop bits end numbers₀ n₀ at₀ numbers n at = end - at
 
-end-of-requires : tie.Need-end-of-requires Inv-loop μ-loop
-end-of-requires c κs = search needs
-
 loop-holds : tie.Need-loop-holds Inv-loop μ-loop
 loop-holds c = filling-none _
 
-shared-slice-read-b : tie.Need-shared-slice-read-b Inv-loop μ-loop
-shared-slice-read-b c = search needs
-
-add-at : tie.Need-add-at Inv-loop μ-loop
-add-at c = search needs
-
-loop-less : tie.Need-loop-less Inv-loop μ-loop
-loop-less c = search needs
-
 loop-again : tie.Need-loop-again Inv-loop μ-loop
 loop-again c = filling-over _ _ _ _ (c .before .before .before .loop .inv) (search needs) (c .if1 .taken)
-
-unchain-requires : tie.Need-unchain-requires Inv-loop μ-loop
-unchain-requires c κs = search needs
-
-mul-list-bits : tie.Need-mul-list-bits Inv-loop μ-loop
-mul-list-bits c = search needs
-
-add-list-bits : tie.Need-add-list-bits Inv-loop μ-loop
-add-list-bits c = search needs
-
-sub-list-bits : tie.Need-sub-list-bits Inv-loop μ-loop
-sub-list-bits c = search needs
-
-part-numbers-start : tie.Need-part-numbers-start Inv-loop μ-loop
-part-numbers-start c = search needs
-
-part-numbers-end : tie.Need-part-numbers-end Inv-loop μ-loop
-part-numbers-end c = search needs
 
 list-bits-requires : tie.Need-list-bits-requires Inv-loop μ-loop
 list-bits-requires c κs = (search needs, filling-lent _ _ _ _ (c .before .before .before .before .before .loop .inv) (search needs))
 
 add-n : tie.Need-add-n Inv-loop μ-loop
 add-n c = omega (arith, filling-sum _ _ _ _ (c .before .before .before .before .before .before .before .loop .inv) (search needs) _ _ (c .before .list-bits .ensures .0))
-
-add-at-2 : tie.Need-add-at-2 Inv-loop μ-loop
-add-at-2 c = search needs
-
-loop-less-2 : tie.Need-loop-less-2 Inv-loop μ-loop
-loop-less-2 c = search needs
 
 loop-again-2 : tie.Need-loop-again-2 Inv-loop μ-loop
 loop-again-2 c =
@@ -73,21 +37,21 @@ list-fields-spec =
     (tie.spec
     Inv-loop
     μ-loop
-    end-of-requires
+    (λ c κs. search needs)
     loop-holds
-    shared-slice-read-b
-    add-at
-    loop-less
+    (λ c. search needs)
+    (λ c. search needs)
+    (λ c. search needs)
     loop-again
-    unchain-requires
-    mul-list-bits
-    add-list-bits
-    sub-list-bits
-    part-numbers-start
-    part-numbers-end
+    (λ c κs. search needs)
+    (λ c. search needs)
+    (λ c. search needs)
+    (λ c. search needs)
+    (λ c. search needs)
+    (λ c. search needs)
     list-bits-requires
     add-n
-    add-at-2
-    loop-less-2
+    (λ c. search needs)
+    (λ c. search needs)
     loop-again-2
     returns)

@@ -19,27 +19,9 @@ Inv-loop count bits end bytes₀ i₀ bytes i = (i ≤ end) × ((bytes ≡ laid 
 abbrev μ-loop : tie.MeasureT-loop
 μ-loop count bits end bytes₀ i₀ bytes i = end - i
 
-mul-end : tie.Need-mul-end Inv-loop μ-loop
-mul-end c = search needs
-
 loop-holds : tie.Need-loop-holds Inv-loop μ-loop
 unfolding between
 loop-holds c = (search needs, (laid-none _ _, (search needs, refl)))
-
-array-read-map-byte : tie.Need-array-read-map-byte Inv-loop μ-loop
-array-read-map-byte c = search needs
-
-map-byte-requires : tie.Need-map-byte-requires Inv-loop μ-loop
-map-byte-requires c κs = search needs
-
-array-write-bytes : tie.Need-array-write-bytes Inv-loop μ-loop
-array-write-bytes c = search needs
-
-add-i : tie.Need-add-i Inv-loop μ-loop
-add-i c = search needs
-
-loop-less : tie.Need-loop-less Inv-loop μ-loop
-loop-less c = search needs
 
 loop-again : tie.Need-loop-again Inv-loop μ-loop
 loop-again c =
@@ -64,12 +46,12 @@ map-bytes-spec =
     (tie.spec
     Inv-loop
     μ-loop
-    mul-end
+    (λ c. search needs)
     loop-holds
-    array-read-map-byte
-    map-byte-requires
-    array-write-bytes
-    add-i
-    loop-less
+    (λ c. search needs)
+    (λ c κs. search needs)
+    (λ c. search needs)
+    (λ c. search needs)
+    (λ c. search needs)
     loop-again
     returns)

@@ -6,26 +6,8 @@ use native.Mathlib.Omega.{arith}
 use Rattle.bitmap.proofs.set_bit.Statement.{statement}
 use Rattle.bitmap.proofs.set_bit.Tie as tie
 
-sub-if1 : tie.Need-sub-if1
-sub-if1 c = search needs
-
-cast-if1 : tie.Need-cast-if1
-cast-if1 c = search needs
-
-shr-if1 : tie.Need-shr-if1
-shr-if1 c = search needs
-
 returns : tie.Need-returns
 returns c = search (bit-there, needs)
-
-sub-result : tie.Need-sub-result
-sub-result c = search needs
-
-cast-result : tie.Need-cast-result
-cast-result c = search needs
-
-shl-result : tie.Need-shl-result
-shl-result c = search needs
 
 add-result : tie.Need-add-result
 add-result c =
@@ -39,12 +21,12 @@ pub set-bit-spec : {M : Type 1} → statement M
 set-bit-spec =
     tie.close
     (tie.spec
-    sub-if1
-    cast-if1
-    shr-if1
+    (λ c. search needs)
+    (λ c. search needs)
+    (λ c. search needs)
     returns
-    sub-result
-    cast-result
-    shl-result
+    (λ c. search needs)
+    (λ c. search needs)
+    (λ c. search needs)
     add-result
     returns-2)

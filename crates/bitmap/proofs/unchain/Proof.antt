@@ -5,14 +5,8 @@ use borrow.Author.Needs.{needs}
 use Rattle.bitmap.proofs.unchain.Statement.{statement}
 use Rattle.bitmap.proofs.unchain.Tie as tie
 
-chained-requires : tie.Need-chained-requires
-chained-requires c κs = search needs
-
 returns : tie.Need-returns
 returns c = search (unchained-first, needs)
-
-chained-requires-2 : tie.Need-chained-requires-2
-chained-requires-2 c κs = search needs
 
 returns-2 : tie.Need-returns-2
 returns-2 c = search (unchained-second, needs)
@@ -21,4 +15,4 @@ returns-3 : tie.Need-returns-3
 returns-3 c = search (unchained-other, needs)
 
 pub unchain-spec : {M : Type 1} → statement M
-unchain-spec = tie.close (tie.spec chained-requires returns chained-requires-2 returns-2 returns-3)
+unchain-spec = tie.close (tie.spec (λ c κs. search needs) returns (λ c κs. search needs) returns-2 returns-3)

@@ -4,15 +4,9 @@ use borrow.Author.Needs.{needs}
 use Rattle.desk.proofs.obol_length_decode.Statement.{statement}
 use Rattle.desk.proofs.obol_length_decode.Tie as tie
 
-decode-length-requires : tie.Need-decode-length-requires
-decode-length-requires c κs = search needs
-
-tell-measured-requires : tie.Need-tell-measured-requires
-tell-measured-requires c κs = search needs
-
 returns : tie.Need-returns
 returns c = search (measured-told, needs)
 
 pub obol-length-decode-spec : {M : Type 1} → statement M
 obol-length-decode-spec =
-    tie.close (tie.spec decode-length-requires tell-measured-requires returns)
+    tie.close (tie.spec (λ c κs. search needs) (λ c κs. search needs) returns)

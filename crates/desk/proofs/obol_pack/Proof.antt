@@ -4,17 +4,8 @@ use borrow.Author.Needs.{needs}
 use Rattle.desk.proofs.obol_pack.Statement.{statement}
 use Rattle.desk.proofs.obol_pack.Tie as tie
 
-pack-requires : tie.Need-pack-requires
-pack-requires c κs = search needs
-
-tell-translated-requires : tie.Need-tell-translated-requires
-tell-translated-requires c κs = search needs
-
-same-length : tie.Need-same-length
-same-length c = search needs
-
 returns : tie.Need-returns
 returns c = (search (translated-told, needs), search needs)
 
 pub obol-pack-spec : {M : Type 1} → statement M
-obol-pack-spec = tie.close (tie.spec pack-requires tell-translated-requires same-length returns)
+obol-pack-spec = tie.close (tie.spec (λ c κs. search needs) (λ c κs. search needs) (λ c. search needs) returns)

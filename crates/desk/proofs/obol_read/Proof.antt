@@ -4,17 +4,8 @@ use borrow.Author.Needs.{needs}
 use Rattle.desk.proofs.obol_read.Statement.{statement}
 use Rattle.desk.proofs.obol_read.Tie as tie
 
-read-requires : tie.Need-read-requires
-read-requires c κs = search needs
-
-tell-read-requires : tie.Need-tell-read-requires
-tell-read-requires c κs = search needs
-
-same-length : tie.Need-same-length
-same-length c = search needs
-
 returns : tie.Need-returns
 returns c = (search (read-told, needs), search needs)
 
 pub obol-read-spec : {M : Type 1} → statement M
-obol-read-spec = tie.close (tie.spec read-requires tell-read-requires same-length returns)
+obol-read-spec = tie.close (tie.spec (λ c κs. search needs) (λ c κs. search needs) (λ c. search needs) returns)

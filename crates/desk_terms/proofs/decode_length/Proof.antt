@@ -5,15 +5,6 @@ use borrow.Author.Needs.{needs}
 use Rattle.desk_terms.proofs.decode_length.Statement.{statement}
 use Rattle.desk_terms.proofs.decode_length.Tie as tie
 
-decode-requires : tie.Need-decode-requires
-decode-requires c κs = search needs
-
-decode-requires-2 : tie.Need-decode-requires-2
-decode-requires-2 c κs = search needs
-
-decode-requires-3 : tie.Need-decode-requires-3
-decode-requires-3 c κs = search needs
-
 returns : tie.Need-returns
 returns c = decoded-in Ascii _ _ _ _ (c .before .match .keys1) (c .decode .ensures .0)
 
@@ -30,9 +21,9 @@ pub decode-length-spec : {M : Type 1} → statement M
 decode-length-spec =
     tie.close
     (tie.spec
-    decode-requires
-    decode-requires-2
-    decode-requires-3
+    (λ c κs. search needs)
+    (λ c κs. search needs)
+    (λ c κs. search needs)
     returns
     returns-2
     returns-3

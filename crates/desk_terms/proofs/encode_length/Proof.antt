@@ -5,33 +5,15 @@ use borrow.Author.Needs.{needs}
 use Rattle.desk_terms.proofs.encode_length.Statement.{statement}
 use Rattle.desk_terms.proofs.encode_length.Tie as tie
 
-encode-requires : tie.Need-encode-requires
-encode-requires c κs = search needs
-
-encode-requires-2 : tie.Need-encode-requires-2
-encode-requires-2 c κs = search needs
-
-encode-requires-3 : tie.Need-encode-requires-3
-encode-requires-3 c κs = search needs
-
-same-length : tie.Need-same-length
-same-length c = search needs
-
 returns : tie.Need-returns
 returns c =
     let made = c .before .before .encode .ensures in
     encoded-in Ascii _ _ _ _ _ _ (c .before .before .before .before .match .keys1) (made .0, made .1 .1)
 
-same-length-2 : tie.Need-same-length-2
-same-length-2 c = search needs
-
 returns-2 : tie.Need-returns-2
 returns-2 c =
     let made = c .before .before .encode2 .ensures in
     encoded-in Bcd _ _ _ _ _ _ (c .before .before .before .before .match .keys2) (made .0, made .1 .1)
-
-same-length-3 : tie.Need-same-length-3
-same-length-3 c = search needs
 
 returns-3 : tie.Need-returns-3
 returns-3 c =
@@ -45,13 +27,13 @@ pub encode-length-spec : {M : Type 1} → statement M
 encode-length-spec =
     tie.close
     (tie.spec
-    encode-requires
-    encode-requires-2
-    encode-requires-3
-    same-length
+    (λ c κs. search needs)
+    (λ c κs. search needs)
+    (λ c κs. search needs)
+    (λ c. search needs)
     returns
-    same-length-2
+    (λ c. search needs)
     returns-2
-    same-length-3
+    (λ c. search needs)
     returns-3
     returns-4)

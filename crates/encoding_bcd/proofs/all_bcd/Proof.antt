@@ -16,23 +16,8 @@ Inv-loop src i₀ i = (i ≤ length src) × (all isBcd src ≡ all isBcd (drop i
 abbrev μ-loop : tie.MeasureT-loop
 μ-loop src i₀ i = length src - i
 
-loop-holds : tie.Need-loop-holds Inv-loop μ-loop
-loop-holds c = search needs
-
-shared-slice-read-is-bcd : tie.Need-shared-slice-read-is-bcd Inv-loop μ-loop
-shared-slice-read-is-bcd c = search needs
-
-is-bcd-requires : tie.Need-is-bcd-requires Inv-loop μ-loop
-is-bcd-requires c κs = search needs
-
 returns : tie.Need-returns Inv-loop μ-loop
 returns c = search (all-false, tested-false, needs)
-
-add-i : tie.Need-add-i Inv-loop μ-loop
-add-i c = search needs
-
-loop-less : tie.Need-loop-less Inv-loop μ-loop
-loop-less c = search needs
 
 loop-again : tie.Need-loop-again Inv-loop μ-loop
 loop-again c = (search needs, search (all-next, tested-true, needs))
@@ -46,11 +31,11 @@ all-bcd-spec =
     (tie.spec
     Inv-loop
     μ-loop
-    loop-holds
-    shared-slice-read-is-bcd
-    is-bcd-requires
+    (λ c. search needs)
+    (λ c. search needs)
+    (λ c κs. search needs)
     returns
-    add-i
-    loop-less
+    (λ c. search needs)
+    (λ c. search needs)
     loop-again
     returns-2)

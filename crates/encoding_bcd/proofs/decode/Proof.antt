@@ -5,9 +5,6 @@ use borrow.Author.Needs.{needs}
 use Rattle.encoding_bcd.proofs.decode.Statement.{statement}
 use Rattle.encoding_bcd.proofs.decode.Tie as tie
 
-decode-fault-requires : tie.Need-decode-fault-requires
-decode-fault-requires c κs = search needs
-
 returns : tie.Need-returns
 returns c = answer-tells (search (refused-answer, needs)) (search (refused-output, needs))
 
@@ -17,13 +14,10 @@ returns-2 c = answer-tells (search (short-answer, unpacked-sized, needs)) (searc
 put-unpacked-requires : tie.Need-put-unpacked-requires
 put-unpacked-requires c κs = (search (decode-clean, needs), search needs)
 
-same-length : tie.Need-same-length
-same-length c = search needs
-
 returns-3 : tie.Need-returns-3
 returns-3 c = answer-tells (search (done-answer, unpacked-sized, needs)) (search (done-output, unpacked-sized, needs))
 
 pub decode-spec : {M : Type 1} → statement M
 decode-spec =
     tie.close
-    (tie.spec decode-fault-requires returns returns-2 put-unpacked-requires same-length returns-3)
+    (tie.spec (λ c κs. search needs) returns returns-2 put-unpacked-requires (λ c. search needs) returns-3)

@@ -4,20 +4,11 @@ use borrow.Author.Needs.{needs}
 use Rattle.encoding_bcd.proofs.decode_fault.Statement.{statement}
 use Rattle.encoding_bcd.proofs.decode_fault.Tie as tie
 
-bytes-of-requires : tie.Need-bytes-of-requires
-bytes-of-requires c κs = search needs
-
 returns : tie.Need-returns
 returns c = search (count-wrong, needs)
 
-all-bcd-requires : tie.Need-all-bcd-requires
-all-bcd-requires c κs = search needs
-
 returns-2 : tie.Need-returns-2
 returns-2 c = search (half-over, needs)
-
-spare-zero-requires : tie.Need-spare-zero-requires
-spare-zero-requires c κs = search needs
 
 returns-3 : tie.Need-returns-3
 returns-3 c = search (spare-over, needs)
@@ -29,10 +20,10 @@ pub decode-fault-spec : {M : Type 1} → statement M
 decode-fault-spec =
     tie.close
     (tie.spec
-    bytes-of-requires
+    (λ c κs. search needs)
     returns
-    all-bcd-requires
+    (λ c κs. search needs)
     returns-2
-    spare-zero-requires
+    (λ c κs. search needs)
     returns-3
     returns-4)

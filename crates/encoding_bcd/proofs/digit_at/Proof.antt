@@ -6,9 +6,6 @@ use native.Mathlib.Omega.{arith}
 use Rattle.encoding_bcd.proofs.digit_at.Statement.{statement}
 use Rattle.encoding_bcd.proofs.digit_at.Tie as tie
 
-shared-slice-read-b : tie.Need-shared-slice-read-b
-shared-slice-read-b c = search needs
-
 add-result : tie.Need-add-result
 add-result c = omega (arith, c .before .shared-slice-known .given (c .before .before .args .j / 2))
 
@@ -22,4 +19,4 @@ returns-2 : tie.Need-returns-2
 returns-2 c = search (spread-odd, needs)
 
 pub digit-at-spec : {M : Type 1} → statement M
-digit-at-spec = tie.close (tie.spec shared-slice-read-b add-result returns add-result-2 returns-2)
+digit-at-spec = tie.close (tie.spec (λ c. search needs) add-result returns add-result-2 returns-2)

@@ -6,23 +6,14 @@ use borrow.Author.Needs.{needs}
 use Rattle.encoding_bcd.proofs.encode.Statement.{statement}
 use Rattle.encoding_bcd.proofs.encode.Tie as tie
 
-encode-fault-requires : tie.Need-encode-fault-requires
-encode-fault-requires c κs = search needs
-
 returns : tie.Need-returns
 returns c = answer-tells (search (refused-answer, needs)) (search (refused-output, needs))
-
-bytes-of-requires : tie.Need-bytes-of-requires
-bytes-of-requires c κs = search needs
 
 returns-2 : tie.Need-returns-2
 returns-2 c = answer-tells (search (short-answer, packed-sized, needs)) (search (short-output, packed-sized, needs))
 
 put-packed-requires : tie.Need-put-packed-requires
 put-packed-requires c κs = (search (encode-clean, needs), search needs)
-
-same-length : tie.Need-same-length
-same-length c = search needs
 
 returns-3 : tie.Need-returns-3
 returns-3 c = answer-tells (search (done-answer, packed-sized, needs)) (search (done-output, packed-sized, needs))
@@ -31,10 +22,10 @@ pub encode-spec : {M : Type 1} → statement M
 encode-spec =
     tie.close
     (tie.spec
-    encode-fault-requires
+    (λ c κs. search needs)
     returns
-    bytes-of-requires
+    (λ c κs. search needs)
     returns-2
     put-packed-requires
-    same-length
+    (λ c. search needs)
     returns-3)

@@ -16,41 +16,14 @@ Inv-loop src out₀ n k₀ out k = (k ≤ n) × ((out ≡ laid (packed src) out�
 abbrev μ-loop : tie.MeasureT-loop
 μ-loop src out₀ n k₀ out k = n - k
 
-bytes-of-requires : tie.Need-bytes-of-requires Inv-loop μ-loop
-bytes-of-requires c κs = search needs
-
 loop-holds : tie.Need-loop-holds Inv-loop μ-loop
 loop-holds c = search (laid-none, needs)
-
-mul-value-at : tie.Need-mul-value-at Inv-loop μ-loop
-mul-value-at c = search needs
 
 value-at-requires : tie.Need-value-at-requires Inv-loop μ-loop
 value-at-requires c κs = (search needs, omega (arith, evened-length (c .before .before .before .before .before .args .src .now)))
 
-mul-value-at-2 : tie.Need-mul-value-at-2 Inv-loop μ-loop
-mul-value-at-2 c = search needs
-
-add-value-at : tie.Need-add-value-at Inv-loop μ-loop
-add-value-at c = search needs
-
 value-at-requires-2 : tie.Need-value-at-requires-2 Inv-loop μ-loop
 value-at-requires-2 c κs = (search needs, omega (arith, evened-length (c .before .before .before .before .before .before .args .src .now)))
-
-mul-out : tie.Need-mul-out Inv-loop μ-loop
-mul-out c = search needs
-
-add-out : tie.Need-add-out Inv-loop μ-loop
-add-out c = search needs
-
-slice-write-out : tie.Need-slice-write-out Inv-loop μ-loop
-slice-write-out c = search needs
-
-add-k : tie.Need-add-k Inv-loop μ-loop
-add-k c = search needs
-
-loop-less : tie.Need-loop-less Inv-loop μ-loop
-loop-less c = search needs
 
 loop-again : tie.Need-loop-again Inv-loop μ-loop
 loop-again c =
@@ -62,9 +35,6 @@ loop-again c =
         search needs,
       ),
     )
-
-same-length : tie.Need-same-length Inv-loop μ-loop
-same-length c = search needs
 
 returns : tie.Need-returns Inv-loop μ-loop
 returns c =
@@ -78,18 +48,18 @@ put-packed-spec =
     (tie.spec
     Inv-loop
     μ-loop
-    bytes-of-requires
+    (λ c κs. search needs)
     loop-holds
-    mul-value-at
+    (λ c. search needs)
     value-at-requires
-    mul-value-at-2
-    add-value-at
+    (λ c. search needs)
+    (λ c. search needs)
     value-at-requires-2
-    mul-out
-    add-out
-    slice-write-out
-    add-k
-    loop-less
+    (λ c. search needs)
+    (λ c. search needs)
+    (λ c. search needs)
+    (λ c. search needs)
+    (λ c. search needs)
     loop-again
-    same-length
+    (λ c. search needs)
     returns)

@@ -10,11 +10,8 @@ returns c = search (spare-even, needs)
 returns-2 : tie.Need-returns-2
 returns-2 c = search (spare-none, needs)
 
-shared-slice-read-result : tie.Need-shared-slice-read-result
-shared-slice-read-result c = search needs
-
 returns-3 : tie.Need-returns-3
 returns-3 c = search (spare-odd, needs)
 
 pub spare-zero-spec : {M : Type 1} → statement M
-spare-zero-spec = tie.close (tie.spec returns returns-2 shared-slice-read-result returns-3)
+spare-zero-spec = tie.close (tie.spec returns returns-2 (λ c. search needs) returns-3)

@@ -17,12 +17,6 @@ returns c = answer-tells (search (refused-answer, needs)) (search (refused-outpu
 returns-2 : tie.Need-returns-2
 returns-2 c = answer-tells (search (short-answer, length-map, needs)) (search (short-output, length-map, needs))
 
-translate-requires : tie.Need-translate-requires
-translate-requires c κs = search needs
-
-same-length : tie.Need-same-length
-same-length c = search needs
-
 returns-3 : tie.Need-returns-3
 unfolding table
 returns-3 c = answer-tells (search (done-answer, length-map, needs)) (search (done-output, table-lays, length-map, needs))
@@ -30,4 +24,4 @@ returns-3 c = answer-tells (search (done-answer, length-map, needs)) (search (do
 pub decode-spec : {M : Type 1} → statement M
 decode-spec =
     tie.close
-    (tie.spec decode-fault-requires returns returns-2 translate-requires same-length returns-3)
+    (tie.spec decode-fault-requires returns returns-2 (λ c κs. search needs) (λ c. search needs) returns-3)

@@ -18,12 +18,6 @@ Inv-loop src meanings i₀ i = (i ≤ length src) × (all meansAscii src ≡ all
 abbrev μ-loop : tie.MeasureT-loop
 μ-loop src meanings i₀ i = length src - i
 
-loop-holds : tie.Need-loop-holds Inv-loop μ-loop
-loop-holds c = search needs
-
-shared-slice-read-if1 : tie.Need-shared-slice-read-if1 Inv-loop μ-loop
-shared-slice-read-if1 c = search needs
-
 cast-if1 : tie.Need-cast-if1 Inv-loop μ-loop
 cast-if1 c = omega (arith, c .shared-slice-known .given (c .before .before .loop .i))
 
@@ -45,12 +39,6 @@ returns c =
     let over = no-meaning _ _ (means (c .before)) (omega (arith, c .if1 .taken)) in
     search (meaning-fails, over, needs)
 
-add-i : tie.Need-add-i Inv-loop μ-loop
-add-i c = search needs
-
-loop-less : tie.Need-loop-less Inv-loop μ-loop
-loop-less c = search needs
-
 loop-again : tie.Need-loop-again Inv-loop μ-loop
 loop-again c = (search needs, search (all-next, a-meaning, means (c .before), needs))
 
@@ -63,12 +51,12 @@ decode-fault-spec =
     (tie.spec
     Inv-loop
     μ-loop
-    loop-holds
-    shared-slice-read-if1
+    (λ c. search needs)
+    (λ c. search needs)
     cast-if1
     element-copy-out-if1
     returns
-    add-i
-    loop-less
+    (λ c. search needs)
+    (λ c. search needs)
     loop-again
     returns-2)

@@ -6,20 +6,11 @@ use borrow.Author.Needs.{needs}
 use Rattle.encoding_ebcdic.proofs.encode.Statement.{statement}
 use Rattle.encoding_ebcdic.proofs.encode.Tie as tie
 
-encode-fault-requires : tie.Need-encode-fault-requires
-encode-fault-requires c κs = search needs
-
 returns : tie.Need-returns
 returns c = answer-tells (search (refused-answer, needs)) (search (refused-output, needs))
 
 returns-2 : tie.Need-returns-2
 returns-2 c = answer-tells (search (short-answer, length-map, needs)) (search (short-output, length-map, needs))
-
-translate-requires : tie.Need-translate-requires
-translate-requires c κs = search needs
-
-same-length : tie.Need-same-length
-same-length c = search needs
 
 returns-3 : tie.Need-returns-3
 unfolding inverse
@@ -28,4 +19,4 @@ returns-3 c = answer-tells (search (done-answer, length-map, needs)) (search (do
 pub encode-spec : {M : Type 1} → statement M
 encode-spec =
     tie.close
-    (tie.spec encode-fault-requires returns returns-2 translate-requires same-length returns-3)
+    (tie.spec (λ c κs. search needs) returns returns-2 (λ c κs. search needs) (λ c. search needs) returns-3)

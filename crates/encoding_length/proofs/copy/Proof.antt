@@ -5,24 +5,15 @@ use borrow.Author.Needs.{needs}
 use Rattle.encoding_length.proofs.copy.Statement.{statement}
 use Rattle.encoding_length.proofs.copy.Tie as tie
 
-ascii-fault-requires : tie.Need-ascii-fault-requires
-ascii-fault-requires c κs = search needs
-
 returns : tie.Need-returns
 returns c = search (refused-answer, refused-output, needs)
 
 returns-2 : tie.Need-returns-2
 returns-2 c = search (short-answer, short-output, needs)
 
-put-requires : tie.Need-put-requires
-put-requires c κs = search needs
-
-same-length : tie.Need-same-length
-same-length c = search needs
-
 returns-3 : tie.Need-returns-3
 returns-3 c = search (done-answer, done-output, copied, needs)
 
 pub copy-spec : {M : Type 1} → statement M
 copy-spec =
-    tie.close (tie.spec ascii-fault-requires returns returns-2 put-requires same-length returns-3)
+    tie.close (tie.spec (λ c κs. search needs) returns returns-2 (λ c κs. search needs) (λ c. search needs) returns-3)

@@ -4,29 +4,11 @@ use borrow.Author.Needs.{needs}
 use Rattle.encoding_length.proofs.decode.Statement.{statement}
 use Rattle.encoding_length.proofs.decode.Tie as tie
 
-is-width-requires : tie.Need-is-width-requires
-is-width-requires c κs = search needs
-
 returns : tie.Need-returns
 returns c = length-tells (search (digits-wrong, needs))
 
-size-of-requires : tie.Need-size-of-requires
-size-of-requires c κs = search needs
-
 returns-2 : tie.Need-returns-2
 returns-2 c = length-tells (search (bytes-wrong, needs))
-
-slice-aggregate-put-text : tie.Need-slice-aggregate-put-text
-slice-aggregate-put-text c = search needs
-
-put-text-requires : tie.Need-put-text-requires
-put-text-requires c κs = search needs
-
-enum-known-why : tie.Need-enum-known-why
-enum-known-why c = search needs
-
-enum-known-n : tie.Need-enum-known-n
-enum-known-n c = search needs
 
 array-share-prefix-text : tie.Need-array-share-prefix-text
 array-share-prefix-text c = search (read-room, needs)
@@ -47,14 +29,14 @@ pub decode-spec : {M : Type 1} → statement M
 decode-spec =
     tie.close
     (tie.spec
-    is-width-requires
+    (λ c κs. search needs)
     returns
-    size-of-requires
+    (λ c κs. search needs)
     returns-2
-    slice-aggregate-put-text
-    put-text-requires
-    enum-known-why
-    enum-known-n
+    (λ c. search needs)
+    (λ c κs. search needs)
+    (λ c. search needs)
+    (λ c. search needs)
     array-share-prefix-text
     slice-aggregate-measure
     measure-requires

@@ -5,17 +5,8 @@ use borrow.Author.Needs.{needs}
 use Rattle.encoding_length.proofs.encode.Statement.{statement}
 use Rattle.encoding_length.proofs.encode.Tie as tie
 
-encode-fault-requires : tie.Need-encode-fault-requires
-encode-fault-requires c κs = search needs
-
 returns : tie.Need-returns
 returns c = answer-tells (search (refused-answer, needs)) (search (refused-output, needs))
-
-slice-aggregate-put-decimal : tie.Need-slice-aggregate-put-decimal
-slice-aggregate-put-decimal c = search needs
-
-put-decimal-requires : tie.Need-put-decimal-requires
-put-decimal-requires c κs = search needs
 
 array-share-prefix-text : tie.Need-array-share-prefix-text
 array-share-prefix-text c = search (text-room, needs)
@@ -26,9 +17,6 @@ slice-aggregate-put-spelt c = search (text-count, needs)
 put-spelt-requires : tie.Need-put-spelt-requires
 put-spelt-requires c κs = search (text-digits, needs)
 
-same-length : tie.Need-same-length
-same-length c = search needs
-
 returns-2 : tie.Need-returns-2
 returns-2 c = answer-tells (search (encoded-answer, needs)) (search (encoded-output, needs))
 
@@ -36,12 +24,12 @@ pub encode-spec : {M : Type 1} → statement M
 encode-spec =
     tie.close
     (tie.spec
-    encode-fault-requires
+    (λ c κs. search needs)
     returns
-    slice-aggregate-put-decimal
-    put-decimal-requires
+    (λ c. search needs)
+    (λ c κs. search needs)
     array-share-prefix-text
     slice-aggregate-put-spelt
     put-spelt-requires
-    same-length
+    (λ c. search needs)
     returns-2)

@@ -5,9 +5,6 @@ use borrow.Author.Needs.{needs}
 use Rattle.encoding_length.proofs.encode_fault.Statement.{statement}
 use Rattle.encoding_length.proofs.encode_fault.Tie as tie
 
-is-width-requires : tie.Need-is-width-requires
-is-width-requires c κs = search needs
-
 returns : tie.Need-returns
 returns c = search (count-wrong, needs)
 
@@ -22,4 +19,4 @@ returns-3 c = search (length-long, needs)
 
 pub encode-fault-spec : {M : Type 1} → statement M
 encode-fault-spec =
-    tie.close (tie.spec is-width-requires returns least-too-long-requires returns-2 returns-3)
+    tie.close (tie.spec (λ c κs. search needs) returns least-too-long-requires returns-2 returns-3)

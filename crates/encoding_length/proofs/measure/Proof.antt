@@ -4,17 +4,11 @@ use borrow.Author.Needs.{needs}
 use Rattle.encoding_length.proofs.measure.Statement.{statement}
 use Rattle.encoding_length.proofs.measure.Tie as tie
 
-all-between-requires : tie.Need-all-between-requires
-all-between-requires c κs = search needs
-
 returns : tie.Need-returns
 returns c = search (number-fails, needs)
-
-decimal-of-requires : tie.Need-decimal-of-requires
-decimal-of-requires c κs = search needs
 
 returns-2 : tie.Need-returns-2
 returns-2 c = search (number-passes, needs)
 
 pub measure-spec : {M : Type 1} → statement M
-measure-spec = tie.close (tie.spec all-between-requires returns decimal-of-requires returns-2)
+measure-spec = tie.close (tie.spec (λ c κs. search needs) returns (λ c κs. search needs) returns-2)

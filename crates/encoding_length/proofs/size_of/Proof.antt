@@ -5,18 +5,6 @@ use borrow.Author.Needs.{needs}
 use Rattle.encoding_length.proofs.size_of.Statement.{statement}
 use Rattle.encoding_length.proofs.size_of.Tie as tie
 
-enum-told : tie.Need-enum-told
-enum-told c = search needs
-
-enum-told-2 : tie.Need-enum-told-2
-enum-told-2 c = search needs
-
-bytes-of-requires : tie.Need-bytes-of-requires
-bytes-of-requires c κs = search needs
-
-enum-told-3 : tie.Need-enum-told-3
-enum-told-3 c = search needs
-
 returns : tie.Need-returns
 unfolding sizeOf
 returns c = rw (c .enum-told .given .1)
@@ -32,4 +20,4 @@ returns-3 c = rw (c .enum-told3 .given .1)
 pub size-of-spec : {M : Type 1} → statement M
 size-of-spec =
     tie.close
-    (tie.spec enum-told enum-told-2 bytes-of-requires enum-told-3 returns returns-2 returns-3)
+    (tie.spec (λ c. search needs) (λ c. search needs) (λ c κs. search needs) (λ c. search needs) returns returns-2 returns-3)

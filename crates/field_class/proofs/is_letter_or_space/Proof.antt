@@ -8,11 +8,8 @@ use Rattle.field_class.proofs.is_letter_or_space.Tie as tie
 returns : tie.Need-returns
 returns c = rw (eq-eqb _ _ (c .if1 .taken))
 
-is-letter-requires : tie.Need-is-letter-requires
-is-letter-requires c κs = search needs
-
 returns-2 : tie.Need-returns-2
 returns-2 c = rw (ne-eqb _ _ (c .before .if1 .left)) (c .is-letter .ensures)
 
 pub is-letter-or-space-spec : {M : Type 1} → statement M
-is-letter-or-space-spec = tie.close (tie.spec returns is-letter-requires returns-2)
+is-letter-or-space-spec = tie.close (tie.spec returns (λ c κs. search needs) returns-2)

@@ -5,54 +5,6 @@ use borrow.Author.Needs.{needs}
 use Rattle.field_class.proofs.is_of_class.Statement.{statement}
 use Rattle.field_class.proofs.is_of_class.Tie as tie
 
-enum-told : tie.Need-enum-told
-enum-told c = search needs
-
-all-allowed-requires : tie.Need-all-allowed-requires
-all-allowed-requires c κs = search needs
-
-enum-told-2 : tie.Need-enum-told-2
-enum-told-2 c = search needs
-
-all-allowed-requires-2 : tie.Need-all-allowed-requires-2
-all-allowed-requires-2 c κs = search needs
-
-enum-told-3 : tie.Need-enum-told-3
-enum-told-3 c = search needs
-
-all-allowed-requires-3 : tie.Need-all-allowed-requires-3
-all-allowed-requires-3 c κs = search needs
-
-enum-told-4 : tie.Need-enum-told-4
-enum-told-4 c = search needs
-
-all-allowed-requires-4 : tie.Need-all-allowed-requires-4
-all-allowed-requires-4 c κs = search needs
-
-enum-told-5 : tie.Need-enum-told-5
-enum-told-5 c = search needs
-
-all-allowed-requires-5 : tie.Need-all-allowed-requires-5
-all-allowed-requires-5 c κs = search needs
-
-enum-told-6 : tie.Need-enum-told-6
-enum-told-6 c = search needs
-
-all-allowed-requires-6 : tie.Need-all-allowed-requires-6
-all-allowed-requires-6 c κs = search needs
-
-enum-told-7 : tie.Need-enum-told-7
-enum-told-7 c = search needs
-
-is-signed-requires : tie.Need-is-signed-requires
-is-signed-requires c κs = search needs
-
-enum-told-8 : tie.Need-enum-told-8
-enum-told-8 c = search needs
-
-all-allowed-requires-7 : tie.Need-all-allowed-requires-7
-all-allowed-requires-7 c κs = search needs
-
 returns : tie.Need-returns
 returns c = search (conforms-in, needs)
 
@@ -81,22 +33,22 @@ pub is-of-class-spec : {M : Type 1} → statement M
 is-of-class-spec =
     tie.close
     (tie.spec
-    enum-told
-    all-allowed-requires
-    enum-told-2
-    all-allowed-requires-2
-    enum-told-3
-    all-allowed-requires-3
-    enum-told-4
-    all-allowed-requires-4
-    enum-told-5
-    all-allowed-requires-5
-    enum-told-6
-    all-allowed-requires-6
-    enum-told-7
-    is-signed-requires
-    enum-told-8
-    all-allowed-requires-7
+    (λ c. search needs)
+    (λ c κs. search needs)
+    (λ c. search needs)
+    (λ c κs. search needs)
+    (λ c. search needs)
+    (λ c κs. search needs)
+    (λ c. search needs)
+    (λ c κs. search needs)
+    (λ c. search needs)
+    (λ c κs. search needs)
+    (λ c. search needs)
+    (λ c κs. search needs)
+    (λ c. search needs)
+    (λ c κs. search needs)
+    (λ c. search needs)
+    (λ c κs. search needs)
     returns
     returns-2
     returns-3

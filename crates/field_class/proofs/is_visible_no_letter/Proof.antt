@@ -4,18 +4,12 @@ use borrow.Author.Needs.{needs}
 use Rattle.field_class.proofs.is_visible_no_letter.Statement.{statement}
 use Rattle.field_class.proofs.is_visible_no_letter.Tie as tie
 
-is-letter-requires : tie.Need-is-letter-requires
-is-letter-requires c κs = search needs
-
 returns : tie.Need-returns
 returns c = rw (← c .before .is-letter .ensures, c .if1 .taken)
-
-is-between-requires : tie.Need-is-between-requires
-is-between-requires c κs = search needs
 
 returns-2 : tie.Need-returns-2
 returns-2 c = rw (← c .before .before .is-letter .ensures, c .before .if1 .left) (c .is-between .ensures)
 
 pub is-visible-no-letter-spec : {M : Type 1} → statement M
 is-visible-no-letter-spec =
-    tie.close (tie.spec is-letter-requires returns is-between-requires returns-2)
+    tie.close (tie.spec (λ c κs. search needs) returns (λ c κs. search needs) returns-2)

@@ -8,11 +8,8 @@ use Rattle.field_read.proofs.content_length.Tie as tie
 returns : tie.Need-returns
 returns c = search (length-fixed, needs)
 
-decimal-of-requires : tie.Need-decimal-of-requires
-decimal-of-requires c κs = search needs
-
 returns-2 : tie.Need-returns-2
 returns-2 c = search (length-spelt, needs)
 
 pub content-length-spec : {M : Type 1} → statement M
-content-length-spec = tie.close (tie.spec returns decimal-of-requires returns-2)
+content-length-spec = tie.close (tie.spec returns (λ c κs. search needs) returns-2)

@@ -5,17 +5,11 @@ use borrow.Author.Needs.{needs}
 use Rattle.field_read.proofs.is_allowed.Statement.{statement}
 use Rattle.field_read.proofs.is_allowed.Tie as tie
 
-is-binary-requires : tie.Need-is-binary-requires
-is-binary-requires c κs = search needs
-
 returns : tie.Need-returns
 returns c = search (either-left, needs)
-
-all-between-requires : tie.Need-all-between-requires
-all-between-requires c κs = search needs
 
 returns-2 : tie.Need-returns-2
 returns-2 c = search (either-right, needs)
 
 pub is-allowed-spec : {M : Type 1} → statement M
-is-allowed-spec = tie.close (tie.spec is-binary-requires returns all-between-requires returns-2)
+is-allowed-spec = tie.close (tie.spec (λ c κs. search needs) returns (λ c κs. search needs) returns-2)

@@ -5,18 +5,9 @@ use borrow.Author.Needs.{needs}
 use Rattle.field_read.proofs.place_field.Statement.{statement}
 use Rattle.field_read.proofs.place_field.Tie as tie
 
-width-in-requires : tie.Need-width-in-requires
-width-in-requires c κs = search needs
-
-most-in-requires : tie.Need-most-in-requires
-most-in-requires c κs = search needs
-
-read-item-requires : tie.Need-read-item-requires
-read-item-requires c κs = search needs
-
 returns : tie.Need-returns
 returns c = search (place-by, needs)
 
 pub place-field-spec : {M : Type 1} → statement M
 place-field-spec =
-    tie.close (tie.spec width-in-requires most-in-requires read-item-requires returns)
+    tie.close (tie.spec (λ c κs. search needs) (λ c κs. search needs) (λ c κs. search needs) returns)

@@ -15,9 +15,6 @@ returns c = search (item-cut, needs)
 slice-aggregate-digits : tie.Need-slice-aggregate-digits
 slice-aggregate-digits c = sym (length-take-le _ (c .before .before .before .args .rest .now) (c .before .if1 .left))
 
-all-between-requires : tie.Need-all-between-requires
-all-between-requires c κs = search needs
-
 returns-2 : tie.Need-returns-2
 returns-2 c = search (item-no-digit, needs)
 
@@ -27,26 +24,8 @@ content-length-requires c κs = simp length-take (omega arith)
 returns-3 : tie.Need-returns-3
 returns-3 c = search (item-long, needs)
 
-sub-if4 : tie.Need-sub-if4
-sub-if4 c = search needs
-
 returns-4 : tie.Need-returns-4
 returns-4 c = search (item-past, needs)
-
-add-end : tie.Need-add-end
-add-end c = search needs
-
-sub-is-allowed : tie.Need-sub-is-allowed
-sub-is-allowed c = search needs
-
-part-is-allowed-start : tie.Need-part-is-allowed-start
-part-is-allowed-start c = search needs
-
-part-is-allowed-end : tie.Need-part-is-allowed-end
-part-is-allowed-end c = search needs
-
-is-allowed-requires : tie.Need-is-allowed-requires
-is-allowed-requires c κs = search needs
 
 returns-5 : tie.Need-returns-5
 returns-5 c = search (item-high, needs)
@@ -68,16 +47,16 @@ read-item-spec =
     (tie.spec
     returns
     slice-aggregate-digits
-    all-between-requires
+    (λ c κs. search needs)
     returns-2
     content-length-requires
     returns-3
-    sub-if4
+    (λ c. search needs)
     returns-4
-    add-end
-    sub-is-allowed
-    part-is-allowed-start
-    part-is-allowed-end
-    is-allowed-requires
+    (λ c. search needs)
+    (λ c. search needs)
+    (λ c. search needs)
+    (λ c. search needs)
+    (λ c κs. search needs)
     returns-5
     returns-6)

@@ -6,15 +6,9 @@ use borrow.Author.Needs.{needs}
 use Rattle.field_table.proofs.class_in.Statement.{statement}
 use Rattle.field_table.proofs.class_in.Tie as tie
 
-code-in-requires : tie.Need-code-in-requires
-code-in-requires c κs = search needs
-
-class-by-code-requires : tie.Need-class-by-code-requires
-class-by-code-requires c κs = search needs
-
 returns : tie.Need-returns
 unfolding decoded
 returns c = c .class-by-code .ensures ∙ ap (λ (x : ℕ). classByCode (x / 4096)) (c .before .code-in .ensures)
 
 pub class-in-spec : {M : Type 1} → statement M
-class-in-spec = tie.close (tie.spec code-in-requires class-by-code-requires returns)
+class-in-spec = tie.close (tie.spec (λ c κs. search needs) (λ c κs. search needs) returns)

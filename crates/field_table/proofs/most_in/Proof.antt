@@ -6,12 +6,9 @@ use borrow.Author.Needs.{needs}
 use Rattle.field_table.proofs.most_in.Statement.{statement}
 use Rattle.field_table.proofs.most_in.Tie as tie
 
-code-in-requires : tie.Need-code-in-requires
-code-in-requires c κs = search needs
-
 returns : tie.Need-returns
 unfolding decoded
 returns c = ap (λ (x : ℕ). x % 1024) (c .code-in .ensures)
 
 pub most-in-spec : {M : Type 1} → statement M
-most-in-spec = tie.close (tie.spec code-in-requires returns)
+most-in-spec = tie.close (tie.spec (λ c κs. search needs) returns)

@@ -7,12 +7,9 @@ use native.Mathlib.Omega.{arith}
 use Rattle.field_table.proofs.width_in.Statement.{statement}
 use Rattle.field_table.proofs.width_in.Tie as tie
 
-code-in-requires : tie.Need-code-in-requires
-code-in-requires c κs = search needs
-
 returns : tie.Need-returns
 unfolding decoded
 returns c = (ap (λ (x : ℕ). x / 1024 % 4) (c .code-in .ensures), omega arith)
 
 pub width-in-spec : {M : Type 1} → statement M
-width-in-spec = tie.close (tie.spec code-in-requires returns)
+width-in-spec = tie.close (tie.spec (λ c κs. search needs) returns)

@@ -4,12 +4,6 @@ use borrow.Author.Needs.{needs}
 use Rattle.field_write.proofs.is_allowed_length.Statement.{statement}
 use Rattle.field_write.proofs.is_allowed_length.Tie as tie
 
-most-in-requires : tie.Need-most-in-requires
-most-in-requires c κs = search needs
-
-width-in-requires : tie.Need-width-in-requires
-width-in-requires c κs = search needs
-
 returns : tie.Need-returns
 returns c = search (allowed-fixed, needs)
 
@@ -17,4 +11,4 @@ returns-2 : tie.Need-returns-2
 returns-2 c = search (allowed-variable, needs)
 
 pub is-allowed-length-spec : {M : Type 1} → statement M
-is-allowed-length-spec = tie.close (tie.spec most-in-requires width-in-requires returns returns-2)
+is-allowed-length-spec = tie.close (tie.spec (λ c κs. search needs) (λ c κs. search needs) returns returns-2)

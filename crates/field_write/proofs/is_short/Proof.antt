@@ -4,11 +4,8 @@ use borrow.Author.Needs.{needs}
 use Rattle.field_write.proofs.is_short.Statement.{statement}
 use Rattle.field_write.proofs.is_short.Tie as tie
 
-missing-requires : tie.Need-missing-requires
-missing-requires c κs = search needs
-
 returns : tie.Need-returns
 returns c = search (short-some, needs)
 
 pub is-short-spec : {M : Type 1} → statement M
-is-short-spec = tie.close (tie.spec missing-requires returns)
+is-short-spec = tie.close (tie.spec (λ c κs. search needs) returns)

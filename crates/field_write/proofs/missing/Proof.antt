@@ -4,14 +4,8 @@ use borrow.Author.Needs.{needs}
 use Rattle.field_write.proofs.missing.Statement.{statement}
 use Rattle.field_write.proofs.missing.Tie as tie
 
-width-in-requires : tie.Need-width-in-requires
-width-in-requires c κs = search needs
-
 returns : tie.Need-returns
 returns c = search (none-variable, needs)
-
-most-in-requires : tie.Need-most-in-requires
-most-in-requires c κs = search needs
 
 returns-2 : tie.Need-returns-2
 returns-2 c = search (none-long, needs)
@@ -20,4 +14,4 @@ returns-3 : tie.Need-returns-3
 returns-3 c = search (some-short, needs)
 
 pub missing-spec : {M : Type 1} → statement M
-missing-spec = tie.close (tie.spec width-in-requires returns most-in-requires returns-2 returns-3)
+missing-spec = tie.close (tie.spec (λ c κs. search needs) returns (λ c κs. search needs) returns-2 returns-3)

@@ -11,31 +11,10 @@ returns c =
     let a = c .before .before .before .args in
     first-short (a .content .now) (replicate (a .pad) (a .b)) _ _ refl (c .if1 .taken)
 
-sub-if2 : tie.Need-sub-if2
-sub-if2 c = search needs
-
 returns-2 : tie.Need-returns-2
 returns-2 c =
     let a = c .before .before .before .before .args in
     second-short (a .content .now) (replicate (a .pad) (a .b)) _ _ refl (c .before .if1 .left) _ (length-replicate _ _) (c .if2 .taken)
-
-put-requires : tie.Need-put-requires
-put-requires c κs = search needs
-
-sub-fill : tie.Need-sub-fill
-sub-fill c = search needs
-
-part-fill-start : tie.Need-part-fill-start
-part-fill-start c = search needs
-
-part-fill-end : tie.Need-part-fill-end
-part-fill-end c = search needs
-
-fill-requires : tie.Need-fill-requires
-fill-requires c κs = search needs
-
-same-length : tie.Need-same-length
-same-length c = search needs
 
 returns-3 : tie.Need-returns-3
 returns-3 c =
@@ -50,12 +29,12 @@ put-padding-last-spec =
     tie.close
     (tie.spec
     returns
-    sub-if2
+    (λ c. search needs)
     returns-2
-    put-requires
-    sub-fill
-    part-fill-start
-    part-fill-end
-    fill-requires
-    same-length
+    (λ c κs. search needs)
+    (λ c. search needs)
+    (λ c. search needs)
+    (λ c. search needs)
+    (λ c κs. search needs)
+    (λ c. search needs)
     returns-3)

@@ -10,15 +10,6 @@ use Rattle.field_write.proofs.written_size.Tie as tie
 returns : tie.Need-returns
 returns c = search (size-none, needs)
 
-width-in-requires : tie.Need-width-in-requires
-width-in-requires c κs = search needs
-
-add-result : tie.Need-add-result
-add-result c = search needs
-
-missing-requires : tie.Need-missing-requires
-missing-requires c κs = search needs
-
 add-result-2 : tie.Need-add-result-2
 add-result-2 c =
     let a = c .before .before .before .before .args in
@@ -31,4 +22,4 @@ returns-2 c = search (size-some, needs)
 pub written-size-spec : {M : Type 1} → statement M
 written-size-spec =
     tie.close
-    (tie.spec returns width-in-requires add-result missing-requires add-result-2 returns-2)
+    (tie.spec returns (λ c κs. search needs) (λ c. search needs) (λ c κs. search needs) add-result-2 returns-2)

@@ -8,18 +8,6 @@ use native.Mathlib.Omega.{arith}
 use Rattle.message_lookup.proofs.content.Statement.{statement}
 use Rattle.message_lookup.proofs.content.Tie as tie
 
-look-up-requires : tie.Need-look-up-requires
-look-up-requires c κs = search needs
-
-enum-told : tie.Need-enum-told
-enum-told c = search needs
-
-slice-aggregate-result : tie.Need-slice-aggregate-result
-slice-aggregate-result c = search needs
-
-enum-known-offset : tie.Need-enum-known-offset
-enum-known-offset c = search needs
-
 add-end : tie.Need-add-end
 add-end c =
     let k = c in
@@ -28,12 +16,6 @@ add-end c =
     let h = sym (l .look-up .ensures .0) ∙ k .before .offset .given .1 in
     let i = looked-inside _ (a .values .now) (a .notes .now) (a .number) _ _ h in
     omega arith
-
-sub-result : tie.Need-sub-result
-sub-result c = search needs
-
-part-result-start : tie.Need-part-result-start
-part-result-start c = search needs
 
 part-result-end : tie.Need-part-result-end
 part-result-end c =
@@ -59,13 +41,13 @@ pub content-spec : {M : Type 1} → statement M
 content-spec =
     tie.close
     (tie.spec
-    look-up-requires
-    enum-told
-    slice-aggregate-result
-    enum-known-offset
+    (λ c κs. search needs)
+    (λ c. search needs)
+    (λ c. search needs)
+    (λ c. search needs)
     add-end
-    sub-result
-    part-result-start
+    (λ c. search needs)
+    (λ c. search needs)
     part-result-end
     returns
     returns-2)

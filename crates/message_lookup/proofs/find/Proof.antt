@@ -36,38 +36,11 @@ turn-at c = record { loop = here c .loop .inv; note = c .read-note .ensures }
 loop-holds : tie.Need-loop-holds Inv-loop μ-loop
 loop-holds c = reading-first (c .before .pre) finding-first
 
-sub-read-note : tie.Need-sub-read-note Inv-loop μ-loop
-sub-read-note c = search needs
-
-part-read-note-start : tie.Need-part-read-note-start Inv-loop μ-loop
-part-read-note-start c = search needs
-
-part-read-note-end : tie.Need-part-read-note-end Inv-loop μ-loop
-part-read-note-end c = search needs
-
-read-note-requires : tie.Need-read-note-requires Inv-loop μ-loop
-read-note-requires c κs = search needs
-
-enum-told : tie.Need-enum-told Inv-loop μ-loop
-enum-told c = search needs
-
-absent-requires : tie.Need-absent-requires Inv-loop μ-loop
-absent-requires c κs = search needs
-
 returns : tie.Need-returns Inv-loop μ-loop
 returns c = finding-none (read-malformed (turn-at (c .before .before .before)) (c .before .enum-told .given .1)) (c .absent .ensures)
 
-enum-told-2 : tie.Need-enum-told-2 Inv-loop μ-loop
-enum-told-2 c = search needs
-
-absent-requires-2 : tie.Need-absent-requires-2 Inv-loop μ-loop
-absent-requires-2 c κs = search needs
-
 returns-2 : tie.Need-returns-2 Inv-loop μ-loop
 returns-2 c = finding-none (read-end (turn-at (c .before .before .before)) (c .before .enum-told2 .given .1)) (c .absent2 .ensures)
-
-enum-known-here : tie.Need-enum-known-here Inv-loop μ-loop
-enum-known-here c = search needs
 
 returns-3 : tie.Need-returns-3 Inv-loop μ-loop
 returns-3 c = let k = c .before .before in finding-here (read-here (turn-at (k .before .before)) (k .here .given .1)) (c .if1 .taken)
@@ -84,9 +57,6 @@ loop-again c =
     let is = c .before .before .here .given .1 in
     read-next k is (finding-next (read-here k is) (c .if1 .left))
 
-absent-requires-3 : tie.Need-absent-requires-3 Inv-loop μ-loop
-absent-requires-3 c κs = search needs
-
 returns-4 : tie.Need-returns-4 Inv-loop μ-loop
 returns-4 c = absurd (omega (arith, c .before .loop-test .left, c .before .before .loop .inv .inside))
 
@@ -97,20 +67,20 @@ find-spec =
     Inv-loop
     μ-loop
     loop-holds
-    sub-read-note
-    part-read-note-start
-    part-read-note-end
-    read-note-requires
-    enum-told
-    absent-requires
+    (λ c. search needs)
+    (λ c. search needs)
+    (λ c. search needs)
+    (λ c κs. search needs)
+    (λ c. search needs)
+    (λ c κs. search needs)
     returns
-    enum-told-2
-    absent-requires-2
+    (λ c. search needs)
+    (λ c κs. search needs)
     returns-2
-    enum-known-here
+    (λ c. search needs)
     returns-3
     add-at
     loop-less
     loop-again
-    absent-requires-3
+    (λ c κs. search needs)
     returns-4)

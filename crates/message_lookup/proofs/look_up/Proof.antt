@@ -9,15 +9,6 @@ use Rattle.message_lookup.proofs.look_up.Tie as tie
 use Rattle.message_lookup.proofs.find.Reads as find-reads
 use Rattle.message_walk.proofs.walk.Reads as walk-reads
 
-walk-requires : tie.Need-walk-requires
-walk-requires c κs = search needs
-
-enum-known-end : tie.Need-enum-known-end
-enum-known-end c = search needs
-
-enum-known-end-2 : tie.Need-enum-known-end-2
-enum-known-end-2 c = search needs
-
 find-requires : tie.Need-find-requires
 find-requires c κs = looked-head _ _ _ 0 _ (c .before .before .before .walk .ensures .0) _ _ (c .before .end2 .given .1)
 
@@ -35,4 +26,4 @@ returns-2 c =
 pub look-up-spec : {M : Type 1} → statement M
 look-up-spec =
     tie.close
-    (tie.spec walk-requires enum-known-end enum-known-end-2 find-requires returns returns-2)
+    (tie.spec (λ c κs. search needs) (λ c. search needs) (λ c. search needs) find-requires returns returns-2)

@@ -7,11 +7,8 @@ use Rattle.message_notes.proofs.is_head.Tie as tie
 returns : tie.Need-returns
 returns c = search (head-not, needs)
 
-shared-slice-read-result : tie.Need-shared-slice-read-result
-shared-slice-read-result c = search needs
-
 returns-2 : tie.Need-returns-2
 returns-2 c = search (head-kind, needs)
 
 pub is-head-spec : {M : Type 1} → statement M
-is-head-spec = tie.close (tie.spec returns shared-slice-read-result returns-2)
+is-head-spec = tie.close (tie.spec returns (λ c. search needs) returns-2)

@@ -6,20 +6,8 @@ use borrow.Author.Needs.{needs}
 use Rattle.message_notes.proofs.mti_in.Statement.{statement}
 use Rattle.message_notes.proofs.mti_in.Tie as tie
 
-slice-aggregate-result : tie.Need-slice-aggregate-result
-slice-aggregate-result c = search needs
-
 returns : tie.Need-returns
 returns c = (mti-none (c .before .before .args .notes .now) (c .before .if1 .taken), (refl, omega (arith, front-place (c .before .before .args .notes .now) (c .before .if1 .taken))))
-
-sub-result : tie.Need-sub-result
-sub-result c = search needs
-
-part-result-start : tie.Need-part-result-start
-part-result-start c = search needs
-
-part-result-end : tie.Need-part-result-end
-part-result-end c = search needs
 
 returns-2 : tie.Need-returns-2
 returns-2 c = (mti-some (c .before .before .args .notes .now) (c .before .if1 .left), (refl, omega (arith, mti-place (c .before .before .args .notes .now) (c .before .if1 .left))))
@@ -28,9 +16,9 @@ pub mti-in-spec : {M : Type 1} → statement M
 mti-in-spec =
     tie.close
     (tie.spec
-    slice-aggregate-result
+    (λ c. search needs)
     returns
-    sub-result
-    part-result-start
-    part-result-end
+    (λ c. search needs)
+    (λ c. search needs)
+    (λ c. search needs)
     returns-2)

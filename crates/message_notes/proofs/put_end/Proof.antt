@@ -16,20 +16,11 @@ use Rattle.message_notes.proofs.put_end.Tie as tie
 returns : tie.Need-returns
 returns c = placed-short _ _ _ (end-long _) (c .if1 .taken)
 
-slice-write-out : tie.Need-slice-write-out
-slice-write-out c = search needs
-
 sub-put-big-endian : tie.Need-sub-put-big-endian
 sub-put-big-endian c = simp length-set (omega arith)
 
 part-put-big-endian-start : tie.Need-part-put-big-endian-start
 part-put-big-endian-start c = simp length-set (omega arith)
-
-part-put-big-endian-end : tie.Need-part-put-big-endian-end
-part-put-big-endian-end c = search needs
-
-put-big-endian-requires : tie.Need-put-big-endian-requires
-put-big-endian-requires c κs = search needs
 
 same-length : tie.Need-same-length
 same-length c = c .before .out .given .1 ∙ simp length-set
@@ -48,10 +39,10 @@ put-end-spec =
     tie.close
     (tie.spec
     returns
-    slice-write-out
+    (λ c. search needs)
     sub-put-big-endian
     part-put-big-endian-start
-    part-put-big-endian-end
-    put-big-endian-requires
+    (λ c. search needs)
+    (λ c κs. search needs)
     same-length
     returns-2)

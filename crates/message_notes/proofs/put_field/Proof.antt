@@ -26,20 +26,11 @@ back c = c .before .before .before .before
 returns : tie.Need-returns
 returns c = placed-short _ _ _ (field-long plainForm _) (c .if1 .taken)
 
-slice-write-out : tie.Need-slice-write-out
-slice-write-out c = search needs
-
 sub-put-big-endian : tie.Need-sub-put-big-endian
 sub-put-big-endian c = simp length-set (omega arith)
 
 part-put-big-endian-start : tie.Need-part-put-big-endian-start
 part-put-big-endian-start c = simp length-set (omega arith)
-
-part-put-big-endian-end : tie.Need-part-put-big-endian-end
-part-put-big-endian-end c = search needs
-
-put-big-endian-requires : tie.Need-put-big-endian-requires
-put-big-endian-requires c κs = search needs
 
 sub-put-big-endian-2 : tie.Need-sub-put-big-endian-2
 sub-put-big-endian-2 c = omega (arith, c .before .out .given, length-set (start c .args .out .now) 0 2)
@@ -47,23 +38,11 @@ sub-put-big-endian-2 c = omega (arith, c .before .out .given, length-set (start 
 part-put-big-endian-start-2 : tie.Need-part-put-big-endian-start-2
 part-put-big-endian-start-2 c = omega (arith, c .before .out .given, length-set (start c .args .out .now) 0 2)
 
-part-put-big-endian-end-2 : tie.Need-part-put-big-endian-end-2
-part-put-big-endian-end-2 c = search needs
-
-put-big-endian-requires-2 : tie.Need-put-big-endian-requires-2
-put-big-endian-requires-2 c κs = search needs
-
 sub-put-big-endian-3 : tie.Need-sub-put-big-endian-3
 sub-put-big-endian-3 c = omega (arith, c .before .out2 .given, back c .before .out .given, length-set (start (back c) .args .out .now) 0 2)
 
 part-put-big-endian-start-3 : tie.Need-part-put-big-endian-start-3
 part-put-big-endian-start-3 c = omega (arith, c .before .out2 .given, back c .before .out .given, length-set (start (back c) .args .out .now) 0 2)
-
-part-put-big-endian-end-3 : tie.Need-part-put-big-endian-end-3
-part-put-big-endian-end-3 c = search needs
-
-put-big-endian-requires-3 : tie.Need-put-big-endian-requires-3
-put-big-endian-requires-3 c κs = search needs
 
 same-length : tie.Need-same-length
 same-length c =
@@ -94,18 +73,18 @@ put-field-spec =
     tie.close
     (tie.spec
     returns
-    slice-write-out
+    (λ c. search needs)
     sub-put-big-endian
     part-put-big-endian-start
-    part-put-big-endian-end
-    put-big-endian-requires
+    (λ c. search needs)
+    (λ c κs. search needs)
     sub-put-big-endian-2
     part-put-big-endian-start-2
-    part-put-big-endian-end-2
-    put-big-endian-requires-2
+    (λ c. search needs)
+    (λ c κs. search needs)
     sub-put-big-endian-3
     part-put-big-endian-start-3
-    part-put-big-endian-end-3
-    put-big-endian-requires-3
+    (λ c. search needs)
+    (λ c κs. search needs)
     same-length
     returns-2)

@@ -19,14 +19,8 @@ start c = c .before .before .before .before .before .before .before .before
 returns : tie.Need-returns
 returns c = placed-short _ _ _ (head-long _ _) (omega arith)
 
-sub-if2 : tie.Need-sub-if2
-sub-if2 c = search needs
-
 returns-2 : tie.Need-returns-2
 returns-2 c = placed-short _ _ _ (head-long _ _) (omega arith)
-
-slice-write-out : tie.Need-slice-write-out
-slice-write-out c = search needs
 
 sub-put : tie.Need-sub-put
 sub-put c = simp length-set (omega arith)
@@ -34,26 +28,11 @@ sub-put c = simp length-set (omega arith)
 part-put-start : tie.Need-part-put-start
 part-put-start c = simp length-set (omega arith)
 
-part-put-end : tie.Need-part-put-end
-part-put-end c = search needs
-
-put-requires : tie.Need-put-requires
-put-requires c κs = search needs
-
-add-at : tie.Need-add-at
-add-at c = search needs
-
 sub-put-big-endian : tie.Need-sub-put-big-endian
 sub-put-big-endian c = omega (arith, c .before .out .given, length-set (start c .args .out .now) 0 1)
 
 part-put-big-endian-start : tie.Need-part-put-big-endian-start
 part-put-big-endian-start c = omega (arith, c .before .out .given, length-set (start c .args .out .now) 0 1)
-
-part-put-big-endian-end : tie.Need-part-put-big-endian-end
-part-put-big-endian-end c = search needs
-
-put-big-endian-requires : tie.Need-put-big-endian-requires
-put-big-endian-requires c κs = search needs
 
 same-length : tie.Need-same-length
 same-length c =
@@ -78,17 +57,17 @@ put-head-spec =
     tie.close
     (tie.spec
     returns
-    sub-if2
+    (λ c. search needs)
     returns-2
-    slice-write-out
+    (λ c. search needs)
     sub-put
     part-put-start
-    part-put-end
-    put-requires
-    add-at
+    (λ c. search needs)
+    (λ c κs. search needs)
+    (λ c. search needs)
     sub-put-big-endian
     part-put-big-endian-start
-    part-put-big-endian-end
-    put-big-endian-requires
+    (λ c. search needs)
+    (λ c κs. search needs)
     same-length
     returns-3)

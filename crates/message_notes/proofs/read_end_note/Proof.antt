@@ -9,18 +9,6 @@ use Rattle.message_notes.proofs.read_end_note.Tie as tie
 returns : tie.Need-returns
 returns c = search (end-cut, needs)
 
-sub-big-endian-of : tie.Need-sub-big-endian-of
-sub-big-endian-of c = search needs
-
-part-big-endian-of-start : tie.Need-part-big-endian-of-start
-part-big-endian-of-start c = search needs
-
-part-big-endian-of-end : tie.Need-part-big-endian-of-end
-part-big-endian-of-end c = search needs
-
-big-endian-of-requires : tie.Need-big-endian-of-requires
-big-endian-of-requires c κs = search needs
-
 returns-2 : tie.Need-returns-2
 returns-2 c = search (end-whole, part-big-endian, needs)
 
@@ -29,8 +17,8 @@ read-end-note-spec =
     tie.close
     (tie.spec
     returns
-    sub-big-endian-of
-    part-big-endian-of-start
-    part-big-endian-of-end
-    big-endian-of-requires
+    (λ c. search needs)
+    (λ c. search needs)
+    (λ c. search needs)
+    (λ c κs. search needs)
     returns-2)

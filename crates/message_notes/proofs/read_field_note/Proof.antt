@@ -9,42 +9,6 @@ use Rattle.message_notes.proofs.read_field_note.Tie as tie
 returns : tie.Need-returns
 returns c = search (field-cut, needs)
 
-sub-big-endian-of : tie.Need-sub-big-endian-of
-sub-big-endian-of c = search needs
-
-part-big-endian-of-start : tie.Need-part-big-endian-of-start
-part-big-endian-of-start c = search needs
-
-part-big-endian-of-end : tie.Need-part-big-endian-of-end
-part-big-endian-of-end c = search needs
-
-big-endian-of-requires : tie.Need-big-endian-of-requires
-big-endian-of-requires c κs = search needs
-
-sub-big-endian-of-2 : tie.Need-sub-big-endian-of-2
-sub-big-endian-of-2 c = search needs
-
-part-big-endian-of-start-2 : tie.Need-part-big-endian-of-start-2
-part-big-endian-of-start-2 c = search needs
-
-part-big-endian-of-end-2 : tie.Need-part-big-endian-of-end-2
-part-big-endian-of-end-2 c = search needs
-
-big-endian-of-requires-2 : tie.Need-big-endian-of-requires-2
-big-endian-of-requires-2 c κs = search needs
-
-sub-big-endian-of-3 : tie.Need-sub-big-endian-of-3
-sub-big-endian-of-3 c = search needs
-
-part-big-endian-of-start-3 : tie.Need-part-big-endian-of-start-3
-part-big-endian-of-start-3 c = search needs
-
-part-big-endian-of-end-3 : tie.Need-part-big-endian-of-end-3
-part-big-endian-of-end-3 c = search needs
-
-big-endian-of-requires-3 : tie.Need-big-endian-of-requires-3
-big-endian-of-requires-3 c κs = search needs
-
 returns-2 : tie.Need-returns-2
 returns-2 c = search (field-whole, part-big-endian, needs)
 
@@ -53,16 +17,16 @@ read-field-note-spec =
     tie.close
     (tie.spec
     returns
-    sub-big-endian-of
-    part-big-endian-of-start
-    part-big-endian-of-end
-    big-endian-of-requires
-    sub-big-endian-of-2
-    part-big-endian-of-start-2
-    part-big-endian-of-end-2
-    big-endian-of-requires-2
-    sub-big-endian-of-3
-    part-big-endian-of-start-3
-    part-big-endian-of-end-3
-    big-endian-of-requires-3
+    (λ c. search needs)
+    (λ c. search needs)
+    (λ c. search needs)
+    (λ c κs. search needs)
+    (λ c. search needs)
+    (λ c. search needs)
+    (λ c. search needs)
+    (λ c κs. search needs)
+    (λ c. search needs)
+    (λ c. search needs)
+    (λ c. search needs)
+    (λ c κs. search needs)
     returns-2)

@@ -8,17 +8,8 @@ use Rattle.message_notes.proofs.read_note.Tie as tie
 returns : tie.Need-returns
 returns c = search (note-missing, needs)
 
-shared-slice-read-kind : tie.Need-shared-slice-read-kind
-shared-slice-read-kind c = search needs
-
-read-field-note-requires : tie.Need-read-field-note-requires
-read-field-note-requires c κs = search needs
-
 returns-2 : tie.Need-returns-2
 returns-2 c = search (note-field, needs)
-
-read-end-note-requires : tie.Need-read-end-note-requires
-read-end-note-requires c κs = search needs
 
 returns-3 : tie.Need-returns-3
 returns-3 c = search (note-end, needs)
@@ -31,9 +22,9 @@ read-note-spec =
     tie.close
     (tie.spec
     returns
-    shared-slice-read-kind
-    read-field-note-requires
+    (λ c. search needs)
+    (λ c κs. search needs)
     returns-2
-    read-end-note-requires
+    (λ c κs. search needs)
     returns-3
     returns-4)

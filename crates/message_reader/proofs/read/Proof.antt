@@ -10,21 +10,6 @@ use Rattle.message_reader.proofs.read.Tie as tie
 returns : tie.Need-returns
 returns c = let e = ends-short _ _ _ (c .if1 .taken) in (e .answer, (e .notes, ap toldRead (e .answer)))
 
-read-head-requires : tie.Need-read-head-requires
-read-head-requires c κs = search needs
-
-enum-known-refusal : tie.Need-enum-known-refusal
-enum-known-refusal c = search needs
-
-enum-known-bitmaps : tie.Need-enum-known-bitmaps
-enum-known-bitmaps c = search needs
-
-house-table-requires : tie.Need-house-table-requires
-house-table-requires c κs = search needs
-
-slice-aggregate-read-by : tie.Need-slice-aggregate-read-by
-slice-aggregate-read-by c = search needs
-
 read-by-requires : tie.Need-read-by-requires
 read-by-requires c κs =
     let b = c .before .before .before .before in
@@ -37,9 +22,6 @@ returns-2 c =
     let e = ends-head _ _ _ (rh .before .if1 .left) _ (sym (rh .read-head .ensures) ∙ c .before .refusal .given .1) in
     (e .answer, (e .notes, ap toldRead (e .answer)))
 
-same-length : tie.Need-same-length
-same-length c = search needs
-
 returns-3 : tie.Need-returns-3
 returns-3 c = search (answer-by, notes-by, tells-by, needs)
 
@@ -48,12 +30,12 @@ read-spec =
     tie.close
     (tie.spec
     returns
-    read-head-requires
-    enum-known-refusal
-    enum-known-bitmaps
-    house-table-requires
-    slice-aggregate-read-by
+    (λ c κs. search needs)
+    (λ c. search needs)
+    (λ c. search needs)
+    (λ c κs. search needs)
+    (λ c. search needs)
     read-by-requires
     returns-2
-    same-length
+    (λ c. search needs)
     returns-3)

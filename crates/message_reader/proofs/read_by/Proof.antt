@@ -15,17 +15,8 @@ mul-start c = omega (arith, head-few _ _ _ (c .before .before .before .pre .0) (
 add-start : tie.Need-add-start
 add-start c = omega (arith, head-few _ _ _ (c .before .before .before .pre .0) (omega arith))
 
-sub-list-fields : tie.Need-sub-list-fields
-sub-list-fields c = search needs
-
-part-list-fields-start : tie.Need-part-list-fields-start
-part-list-fields-start c = search needs
-
 part-list-fields-end : tie.Need-part-list-fields-end
 part-list-fields-end c = omega (arith, head-room _ _ _ (c .before .before .before .pre .0) (omega arith))
-
-list-fields-requires : tie.Need-list-fields-requires
-list-fields-requires c κs = search needs
 
 array-share-prefix-numbers : tie.Need-array-share-prefix-numbers
 array-share-prefix-numbers c =
@@ -43,24 +34,18 @@ read-listed-requires c κs =
     let p = l .before .before .before .before .before .pre in
     (p .0, (list-is _ _ _ _ _ (head-few _ _ _ (p .0) (omega arith)) (l .list-fields .ensures .0) (l .list-fields .ensures .1), p .1))
 
-same-length : tie.Need-same-length
-same-length c = search needs
-
-returns : tie.Need-returns
-returns c = search needs
-
 pub read-by-spec : {M : Type 1} → statement M
 read-by-spec =
     tie.close
     (tie.spec
     mul-start
     add-start
-    sub-list-fields
-    part-list-fields-start
+    (λ c. search needs)
+    (λ c. search needs)
     part-list-fields-end
-    list-fields-requires
+    (λ c κs. search needs)
     array-share-prefix-numbers
     slice-aggregate-read-listed
     read-listed-requires
-    same-length
-    returns)
+    (λ c. search needs)
+    (λ c. search needs))

@@ -18,27 +18,6 @@ abbrev μ-loop : tie.MeasureT-loop
 loop-holds : tie.Need-loop-holds Inv-loop μ-loop
 loop-holds c = scan-first (c .before .before .before .pre)
 
-shared-slice-read-wide : tie.Need-shared-slice-read-wide Inv-loop μ-loop
-shared-slice-read-wide c = search needs
-
-wide-requires : tie.Need-wide-requires Inv-loop μ-loop
-wide-requires c κs = search needs
-
-sub-read-field : tie.Need-sub-read-field Inv-loop μ-loop
-sub-read-field c = search needs
-
-part-read-field-start : tie.Need-part-read-field-start Inv-loop μ-loop
-part-read-field-start c = search needs
-
-part-read-field-end : tie.Need-part-read-field-end Inv-loop μ-loop
-part-read-field-end c = search needs
-
-read-field-requires : tie.Need-read-field-requires Inv-loop μ-loop
-read-field-requires c κs = search needs
-
-enum-known-number : tie.Need-enum-known-number Inv-loop μ-loop
-enum-known-number c = search needs
-
 -- the turn of the loop in which a field was met and read
 abbrev here : tie.After-read-field Inv-loop μ-loop → tie.At-loop Inv-loop μ-loop
 here c = c .before .before .before .before .before
@@ -54,9 +33,6 @@ returns c =
     let k = c .before .before .before in
     scan-refused (here k .loop .inv) (met-at k) (c .before .number .given .1)
 
-enum-known-start : tie.Need-enum-known-start Inv-loop μ-loop
-enum-known-start c = search needs
-
 add-at : tie.Need-add-at Inv-loop μ-loop
 add-at c =
     let k = c .before .before .before in
@@ -66,9 +42,6 @@ add-at-2 : tie.Need-add-at-2 Inv-loop μ-loop
 add-at-2 c =
     let k = c .before .before .before in
     omega (arith, scan-within (here k .loop .inv) (met-at k) (c .before .start .given .1))
-
-add-i : tie.Need-add-i Inv-loop μ-loop
-add-i c = search needs
 
 loop-less : tie.Need-loop-less Inv-loop μ-loop
 loop-less c = omega (arith, c .before .before .before .before .before .before .before .loop-test .taken)
@@ -89,18 +62,18 @@ read-fields-spec =
     Inv-loop
     μ-loop
     loop-holds
-    shared-slice-read-wide
-    wide-requires
-    sub-read-field
-    part-read-field-start
-    part-read-field-end
-    read-field-requires
-    enum-known-number
+    (λ c. search needs)
+    (λ c κs. search needs)
+    (λ c. search needs)
+    (λ c. search needs)
+    (λ c. search needs)
+    (λ c κs. search needs)
+    (λ c. search needs)
     returns
-    enum-known-start
+    (λ c. search needs)
     add-at
     add-at-2
-    add-i
+    (λ c. search needs)
     loop-less
     loop-again
     returns-2)

@@ -14,14 +14,8 @@ returns c = search (head-short, needs)
 slice-aggregate-lead-between : tie.Need-slice-aggregate-lead-between
 slice-aggregate-lead-between c = sym (length-take-le 4 (c .before .before .before .args .message .now) (omega arith))
 
-lead-between-requires : tie.Need-lead-between-requires
-lead-between-requires c κs = search needs
-
 returns-2 : tie.Need-returns-2
 returns-2 c = search (head-no-digit, needs)
-
-read-bitmaps-requires : tie.Need-read-bitmaps-requires
-read-bitmaps-requires c κs = search needs
 
 returns-3 : tie.Need-returns-3
 returns-3 c = search (head-maps, needs)
@@ -32,7 +26,7 @@ read-head-spec =
     (tie.spec
     returns
     slice-aggregate-lead-between
-    lead-between-requires
+    (λ c κs. search needs)
     returns-2
-    read-bitmaps-requires
+    (λ c κs. search needs)
     returns-3)

@@ -26,12 +26,6 @@ read-fields-requires c κs = head-room _ _ _ (c .before .before .before .before 
 body : (c : tie.After-read-fields) → readBody (decoded (start c .args .table .now)) (start c .args .message .now) (start c .args .bitmaps) ≡ c .read-fields .result
 body c = sym (c .read-fields .ensures ∙ body-is (decoded (start c .args .table .now)) _ _ _ (start c .pre .1 .0))
 
-enum-known-refusal : tie.Need-enum-known-refusal
-enum-known-refusal c = search needs
-
-enum-known-used : tie.Need-enum-known-used
-enum-known-used c = search needs
-
 write-notes-requires : tie.Need-write-notes-requires
 write-notes-requires c κs =
     let rf = c .before .before .before .before in
@@ -44,9 +38,6 @@ returns c =
     let p = start rf .pre in
     let e = ends-refused _ _ _ (p .1 .1) _ _ (p .0) (body rf ∙ c .before .refusal .given .1) in
     (e .answer, e .notes)
-
-same-length : tie.Need-same-length
-same-length c = search needs
 
 returns-2 : tie.Need-returns-2
 returns-2 c =
@@ -63,9 +54,9 @@ read-listed-spec =
     mul-read-fields
     add-read-fields
     read-fields-requires
-    enum-known-refusal
-    enum-known-used
+    (λ c. search needs)
+    (λ c. search needs)
     write-notes-requires
     returns
-    same-length
+    (λ c. search needs)
     returns-2)

@@ -19,27 +19,6 @@ abbrev μ-loop : tie.MeasureT-loop
 loop-holds : tie.Need-loop-holds Inv-loop μ-loop
 loop-holds c = let p = c .before .before .before .before .pre in noted-first (p .0) (p .1 .0) (p .1 .1 .1)
 
-shared-slice-read-wide : tie.Need-shared-slice-read-wide Inv-loop μ-loop
-shared-slice-read-wide c = search needs
-
-wide-requires : tie.Need-wide-requires Inv-loop μ-loop
-wide-requires c κs = search needs
-
-sub-place-field : tie.Need-sub-place-field Inv-loop μ-loop
-sub-place-field c = search needs
-
-part-place-field-start : tie.Need-part-place-field-start Inv-loop μ-loop
-part-place-field-start c = search needs
-
-part-place-field-end : tie.Need-part-place-field-end Inv-loop μ-loop
-part-place-field-end c = search needs
-
-place-field-requires : tie.Need-place-field-requires Inv-loop μ-loop
-place-field-requires c κs = search needs
-
-enum-told : tie.Need-enum-told Inv-loop μ-loop
-enum-told c = search needs
-
 -- the turn of the loop in which a field was met and placed
 abbrev here : tie.After-place-field Inv-loop μ-loop → tie.At-loop Inv-loop μ-loop
 here c = c .before .before .before .before .before
@@ -58,9 +37,6 @@ returns c =
     let k = c .before .before in
     noted-refused (here k .loop .inv) (met-at k) (c .enum-told .given .1)
 
-enum-known-start : tie.Need-enum-known-start Inv-loop μ-loop
-enum-known-start c = search needs
-
 add-put-field : tie.Need-add-put-field Inv-loop μ-loop
 add-put-field c =
     let k = c .before .before .before in
@@ -75,12 +51,6 @@ part-put-field-start : tie.Need-part-put-field-start Inv-loop μ-loop
 part-put-field-start c =
     let k = c .before .before .before in
     omega (arith, noted-room (here k .loop .inv) (met-at k))
-
-part-put-field-end : tie.Need-part-put-field-end Inv-loop μ-loop
-part-put-field-end c = search needs
-
-put-field-requires : tie.Need-put-field-requires Inv-loop μ-loop
-put-field-requires c κs = search needs
 
 -- the note is put
 abbrev put : tie.After-slice-known2 Inv-loop μ-loop → tie.After-start Inv-loop μ-loop
@@ -100,9 +70,6 @@ add-written : tie.Need-add-written Inv-loop μ-loop
 add-written c =
     let k = put c .before .before in
     omega (arith, noted-room (here k .loop .inv) (met-at k), here k .loop .inv .written .size, start k .good .1 .1 .1 .1 .0)
-
-add-i : tie.Need-add-i Inv-loop μ-loop
-add-i c = search needs
 
 loop-less : tie.Need-loop-less Inv-loop μ-loop
 loop-less c = omega (arith, put c .before .before .before .before .before .before .loop-test .taken)
@@ -125,25 +92,25 @@ write-fields-spec =
     Inv-loop
     μ-loop
     loop-holds
-    shared-slice-read-wide
-    wide-requires
-    sub-place-field
-    part-place-field-start
-    part-place-field-end
-    place-field-requires
-    enum-told
+    (λ c. search needs)
+    (λ c κs. search needs)
+    (λ c. search needs)
+    (λ c. search needs)
+    (λ c. search needs)
+    (λ c κs. search needs)
+    (λ c. search needs)
     same-length
     returns
-    enum-known-start
+    (λ c. search needs)
     add-put-field
     sub-put-field
     part-put-field-start
-    part-put-field-end
-    put-field-requires
+    (λ c. search needs)
+    (λ c κs. search needs)
     add-at
     add-at-2
     add-written
-    add-i
+    (λ c. search needs)
     loop-less
     loop-again
     same-length-2

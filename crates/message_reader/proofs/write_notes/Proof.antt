@@ -36,23 +36,11 @@ written-at c =
 slice-aggregate-put-head : tie.Need-slice-aggregate-put-head
 slice-aggregate-put-head c = sym (length-take-le 4 (c .before .before .before .before .before .args .message .now) (omega arith))
 
-put-head-requires : tie.Need-put-head-requires
-put-head-requires c κs = search needs
-
 mul-write-fields : tie.Need-mul-write-fields
 mul-write-fields c = omega (arith, start (c .before .before) .pre .0)
 
 add-write-fields : tie.Need-add-write-fields
 add-write-fields c = omega (arith, start (c .before .before) .pre .0)
-
-sub-write-fields : tie.Need-sub-write-fields
-sub-write-fields c = search needs
-
-part-write-fields-start : tie.Need-part-write-fields-start
-part-write-fields-start c = search needs
-
-part-write-fields-end : tie.Need-part-write-fields-end
-part-write-fields-end c = search needs
 
 write-fields-requires : tie.Need-write-fields-requires
 write-fields-requires c κs =
@@ -68,15 +56,6 @@ sub-put-end c = omega (arith, written-at c, c .before .notes2 .given, c .before 
 
 part-put-end-start : tie.Need-part-put-end-start
 part-put-end-start c = omega (arith, written-at c, c .before .notes2 .given, c .before .before .before .before .before .notes .given, start (head-put c) .pre .1 .1 .1 .0)
-
-part-put-end-end : tie.Need-part-put-end-end
-part-put-end-end c = search needs
-
-put-end-requires : tie.Need-put-end-requires
-put-end-requires c κs = search needs
-
-same-length : tie.Need-same-length
-same-length c = search needs
 
 returns : tie.Need-returns
 unfolding notesOf readingWith
@@ -102,17 +81,17 @@ write-notes-spec =
     tie.close
     (tie.spec
     slice-aggregate-put-head
-    put-head-requires
+    (λ c κs. search needs)
     mul-write-fields
     add-write-fields
-    sub-write-fields
-    part-write-fields-start
-    part-write-fields-end
+    (λ c. search needs)
+    (λ c. search needs)
+    (λ c. search needs)
     write-fields-requires
     add-end
     sub-put-end
     part-put-end-start
-    part-put-end-end
-    put-end-requires
-    same-length
+    (λ c. search needs)
+    (λ c κs. search needs)
+    (λ c. search needs)
     returns)

@@ -8,18 +8,6 @@ use Rattle.message_walk.proofs.content_fault.Tie as tie
 use Rattle.field_write.proofs.clean_fault.Reads as clean-fault-reads
 use Rattle.field_write.proofs.exact_fault.Reads as exact-fault-reads
 
-enum-told : tie.Need-enum-told
-enum-told c = search needs
-
-exact-fault-requires : tie.Need-exact-fault-requires
-exact-fault-requires c κs = search needs
-
-enum-told-2 : tie.Need-enum-told-2
-enum-told-2 c = search needs
-
-clean-fault-requires : tie.Need-clean-fault-requires
-clean-fault-requires c κs = search needs
-
 returns : tie.Need-returns
 unfolding asked
 returns c = search (rule-is, needs)
@@ -31,4 +19,4 @@ returns-2 c = search (rule-is, needs)
 pub content-fault-spec : {M : Type 1} → statement M
 content-fault-spec =
     tie.close
-    (tie.spec enum-told exact-fault-requires enum-told-2 clean-fault-requires returns returns-2)
+    (tie.spec (λ c. search needs) (λ c κs. search needs) (λ c. search needs) (λ c κs. search needs) returns returns-2)

@@ -8,26 +8,14 @@ use Rattle.message_walk.proofs.fault_of.Tie as tie
 use Rattle.message_walk.proofs.content_fault.Reads as content-fault-reads
 use Rattle.message_walk.proofs.is_inside.Reads as is-inside-reads
 
-is-inside-requires : tie.Need-is-inside-requires
-is-inside-requires c κs = search needs
-
 returns : tie.Need-returns
 returns c = search (fault-outside, needs)
 
 add-end : tie.Need-add-end
 add-end c = let a = c .before .before .before .before .args in omega (arith, inside-of (a .offset) (a .length) _ _ (c .before .is-inside .ensures) (c .if1 .left))
 
-sub-content-fault : tie.Need-sub-content-fault
-sub-content-fault c = search needs
-
-part-content-fault-start : tie.Need-part-content-fault-start
-part-content-fault-start c = search needs
-
 part-content-fault-end : tie.Need-part-content-fault-end
 part-content-fault-end c = inside-of _ _ _ _ (c .before .is-inside .ensures) (c .if1 .left)
-
-content-fault-requires : tie.Need-content-fault-requires
-content-fault-requires c κs = search needs
 
 returns-2 : tie.Need-returns-2
 returns-2 c = search (fault-inside, needs)
@@ -36,11 +24,11 @@ pub fault-of-spec : {M : Type 1} → statement M
 fault-of-spec =
     tie.close
     (tie.spec
-    is-inside-requires
+    (λ c κs. search needs)
     returns
     add-end
-    sub-content-fault
-    part-content-fault-start
+    (λ c. search needs)
+    (λ c. search needs)
     part-content-fault-end
-    content-fault-requires
+    (λ c κs. search needs)
     returns-2)

@@ -10,26 +10,14 @@ use Rattle.message_notes.proofs.is_head.Reads as is-head-reads
 use Rattle.message_notes.proofs.mti_in.Reads as mti-in-reads
 use Rattle.octets.proofs.all_between.Reads as all-between-reads
 
-is-head-requires : tie.Need-is-head-requires
-is-head-requires c κs = search needs
-
 returns : tie.Need-returns
 returns c = search (head-not, needs)
-
-count-in-requires : tie.Need-count-in-requires
-count-in-requires c κs = search needs
 
 returns-2 : tie.Need-returns-2
 returns-2 c = search (head-none, needs)
 
 returns-3 : tie.Need-returns-3
 returns-3 c = let many : 3 < c .before .before .count-in .result = omega arith in search (head-many, needs)
-
-mti-in-requires : tie.Need-mti-in-requires
-mti-in-requires c κs = search needs
-
-all-between-requires : tie.Need-all-between-requires
-all-between-requires c κs = search needs
 
 returns-4 : tie.Need-returns-4
 returns-4 c = search (head-mti, needs)
@@ -41,12 +29,12 @@ pub head-fault-spec : {M : Type 1} → statement M
 head-fault-spec =
     tie.close
     (tie.spec
-    is-head-requires
+    (λ c κs. search needs)
     returns
-    count-in-requires
+    (λ c κs. search needs)
     returns-2
     returns-3
-    mti-in-requires
-    all-between-requires
+    (λ c κs. search needs)
+    (λ c κs. search needs)
     returns-4
     returns-5)

@@ -9,18 +9,12 @@ use Rattle.bitmap.proofs.is_field.Reads as is-field-reads
 returns : tie.Need-returns
 returns c = search (not-above, needs)
 
-is-field-requires : tie.Need-is-field-requires
-is-field-requires c κs = search needs
-
 returns-2 : tie.Need-returns-2
 returns-2 c = search (no-number, needs)
-
-sub-result : tie.Need-sub-result
-sub-result c = search needs
 
 returns-3 : tie.Need-returns-3
 returns-3 c = search (in-bitmaps, needs)
 
 pub is-number-allowed-spec : {M : Type 1} → statement M
 is-number-allowed-spec =
-    tie.close (tie.spec returns is-field-requires returns-2 sub-result returns-3)
+    tie.close (tie.spec returns (λ c κs. search needs) returns-2 (λ c. search needs) returns-3)

@@ -10,24 +10,6 @@ use Rattle.message_notes.proofs.read_note.Reads as read-note-reads
 use Rattle.message_walk.proofs.fault_of.Reads as fault-of-reads
 use Rattle.message_walk.proofs.judge_field.Reads as judge-field-reads
 
-read-note-requires : tie.Need-read-note-requires
-read-note-requires c κs = search needs
-
-enum-told : tie.Need-enum-told
-enum-told c = search needs
-
-enum-known-said : tie.Need-enum-known-said
-enum-known-said c = search needs
-
-enum-known-number : tie.Need-enum-known-number
-enum-known-number c = search needs
-
-fault-of-requires : tie.Need-fault-of-requires
-fault-of-requires c κs = search needs
-
-judge-field-requires : tie.Need-judge-field-requires
-judge-field-requires c κs = search needs
-
 returns : tie.Need-returns
 returns c = sym (judged-malformed _ _ _ _ _ (sym (c .before .before .read-note .ensures) ∙ c .enum-told .given .1))
 
@@ -43,12 +25,12 @@ pub judge-spec : {M : Type 1} → statement M
 judge-spec =
     tie.close
     (tie.spec
-    read-note-requires
-    enum-told
-    enum-known-said
-    enum-known-number
-    fault-of-requires
-    judge-field-requires
+    (λ c κs. search needs)
+    (λ c. search needs)
+    (λ c. search needs)
+    (λ c. search needs)
+    (λ c κs. search needs)
+    (λ c κs. search needs)
     returns
     returns-2
     returns-3)

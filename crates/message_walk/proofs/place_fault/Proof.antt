@@ -6,9 +6,6 @@ use Rattle.message_walk.proofs.place_fault.Statement.{statement}
 use Rattle.message_walk.proofs.place_fault.Tie as tie
 use Rattle.message_walk.proofs.is_inside.Reads as is-inside-reads
 
-is-inside-requires : tie.Need-is-inside-requires
-is-inside-requires c κs = search needs
-
 returns : tie.Need-returns
 returns c = search (placed-inside, needs)
 
@@ -16,4 +13,4 @@ returns-2 : tie.Need-returns-2
 returns-2 c = search (placed-outside, needs)
 
 pub place-fault-spec : {M : Type 1} → statement M
-place-fault-spec = tie.close (tie.spec is-inside-requires returns returns-2)
+place-fault-spec = tie.close (tie.spec (λ c κs. search needs) returns returns-2)

@@ -17,12 +17,6 @@ use Rattle.message_walk.proofs.walk_fields.Reads as walk-fields-reads
 abbrev fault : tie.Start → Fault
 fault a = within (a .args .values .now) any
 
-head-fault-requires : tie.Need-head-fault-requires
-head-fault-requires c κs = search needs
-
-refused-at-requires : tie.Need-refused-at-requires
-refused-at-requires c κs = search needs
-
 returns : tie.Need-returns
 returns c =
     let h = c .before .before in
@@ -43,4 +37,4 @@ returns-2 c =
 pub walk-spec : {M : Type 1} → statement M
 walk-spec =
     tie.close
-    (tie.spec head-fault-requires refused-at-requires returns walk-fields-requires returns-2)
+    (tie.spec (λ c κs. search needs) (λ c κs. search needs) returns walk-fields-requires returns-2)

@@ -58,33 +58,9 @@ turn-at :
     (c .judge-place .result)
 turn-at c = record { loop = here c .loop .inv; judging = counted _ _ _ _ _ _ _ (c .judge-place .ensures) (here c .before .before .count-in .ensures) }
 
-count-in-requires : tie.Need-count-in-requires Inv-loop μ-loop
-count-in-requires c κs = search needs
-
-none-requires : tie.Need-none-requires Inv-loop μ-loop
-none-requires c κs = search needs
-
 loop-holds : tie.Need-loop-holds Inv-loop μ-loop
 unfolding entriesIn
 loop-holds c = walking-first (c .before .before .before .before .pre) (naming-first (c .none .ensures))
-
-sub-judge-place : tie.Need-sub-judge-place Inv-loop μ-loop
-sub-judge-place c = search needs
-
-part-judge-place-start : tie.Need-part-judge-place-start Inv-loop μ-loop
-part-judge-place-start c = search needs
-
-part-judge-place-end : tie.Need-part-judge-place-end Inv-loop μ-loop
-part-judge-place-end c = search needs
-
-judge-place-requires : tie.Need-judge-place-requires Inv-loop μ-loop
-judge-place-requires c κs = search needs
-
-enum-known-number : tie.Need-enum-known-number Inv-loop μ-loop
-enum-known-number c = search needs
-
-refused-at-requires : tie.Need-refused-at-requires Inv-loop μ-loop
-refused-at-requires c κs = search needs
 
 returns : tie.Need-returns Inv-loop μ-loop
 returns c =
@@ -92,21 +68,12 @@ returns c =
     let r = c .refused-at .ensures in
     (r .0 ∙ turn-refused (turn-at (k .before .before)) (k .number .given .1), r .1 ∙ refused-none _ _ _ (r .0))
 
-enum-known-said : tie.Need-enum-known-said Inv-loop μ-loop
-enum-known-said c = search needs
-
 returns-2 : tie.Need-returns-2 Inv-loop μ-loop
 unfolding fieldsOn
 returns-2 c =
     let k = turn-at (c .before .before .before) in
     let is = c .before .said .given .1 in
     (turn-end k is, naming-done (numbers-are _ _ _ (entries-good _ _ _)) (turn-done k is))
-
-enum-known-number-2 : tie.Need-enum-known-number-2 Inv-loop μ-loop
-enum-known-number-2 c = search needs
-
-with-requires : tie.Need-with-requires Inv-loop μ-loop
-with-requires c κs = search needs
 
 add-at : tie.Need-add-at Inv-loop μ-loop
 add-at c = let k = c .before .before in omega (arith, turn-room (turn-at (k .before .before)) (k .number2 .given .1), start (here (k .before .before)) .good .1 .0)
@@ -120,9 +87,6 @@ loop-again c =
     let is = c .before .before .number2 .given .1 in
     turn-next k is (naming-next (turn-here k is) (c .with .ensures))
 
-refused-at-requires-2 : tie.Need-refused-at-requires-2 Inv-loop μ-loop
-refused-at-requires-2 c κs = search needs
-
 returns-3 : tie.Need-returns-3 Inv-loop μ-loop
 returns-3 c = absurd (omega (arith, c .before .loop-test .left, c .before .before .loop .inv .inside))
 
@@ -132,22 +96,22 @@ walk-fields-spec =
     (tie.spec
     Inv-loop
     μ-loop
-    count-in-requires
-    none-requires
+    (λ c κs. search needs)
+    (λ c κs. search needs)
     loop-holds
-    sub-judge-place
-    part-judge-place-start
-    part-judge-place-end
-    judge-place-requires
-    enum-known-number
-    refused-at-requires
+    (λ c. search needs)
+    (λ c. search needs)
+    (λ c. search needs)
+    (λ c κs. search needs)
+    (λ c. search needs)
+    (λ c κs. search needs)
     returns
-    enum-known-said
+    (λ c. search needs)
     returns-2
-    enum-known-number-2
-    with-requires
+    (λ c. search needs)
+    (λ c κs. search needs)
     add-at
     loop-less
     loop-again
-    refused-at-requires-2
+    (λ c κs. search needs)
     returns-3)

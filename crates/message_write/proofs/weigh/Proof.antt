@@ -23,12 +23,6 @@ by a = decoded (a .args .table .now)
 abbrev fault : tie.Start → Fault
 fault a = faultBy (by a) (a .args .values .now) (a .args .rule)
 
-head-fault-requires : tie.Need-head-fault-requires
-head-fault-requires c κs = search needs
-
-refused-at-requires : tie.Need-refused-at-requires
-refused-at-requires c κs = search needs
-
 returns : tie.Need-returns
 returns c =
     let h = c .before .before in
@@ -51,4 +45,4 @@ returns-2 c =
 pub weigh-spec : {M : Type 1} → statement M
 weigh-spec =
     tie.close
-    (tie.spec head-fault-requires refused-at-requires returns weigh-fields-requires returns-2)
+    (tie.spec (λ c κs. search needs) (λ c κs. search needs) returns weigh-fields-requires returns-2)

@@ -67,36 +67,9 @@ turn-at :
     (c .judge .result)
 turn-at c = record { loop = here c .loop .inv; judging = counted _ _ _ _ _ _ _ (c .judge .ensures) (here c .before .before .before .count-in .ensures) }
 
-count-in-requires : tie.Need-count-in-requires Inv-loop μ-loop
-count-in-requires c κs = search needs
-
-none-requires : tie.Need-none-requires Inv-loop μ-loop
-none-requires c κs = search needs
-
-none-requires-2 : tie.Need-none-requires-2 Inv-loop μ-loop
-none-requires-2 c κs = search needs
-
 loop-holds : tie.Need-loop-holds Inv-loop μ-loop
 unfolding entriesBy entriesIn
 loop-holds c = walking-first (c .before .before .before .before .before .before .pre) (weighing-first (c .before .none .ensures) (c .none2 .ensures))
-
-sub-judge : tie.Need-sub-judge Inv-loop μ-loop
-sub-judge c = search needs
-
-part-judge-start : tie.Need-part-judge-start Inv-loop μ-loop
-part-judge-start c = search needs
-
-part-judge-end : tie.Need-part-judge-end Inv-loop μ-loop
-part-judge-end c = search needs
-
-judge-requires : tie.Need-judge-requires Inv-loop μ-loop
-judge-requires c κs = search needs
-
-enum-known-number : tie.Need-enum-known-number Inv-loop μ-loop
-enum-known-number c = search needs
-
-refused-at-requires : tie.Need-refused-at-requires Inv-loop μ-loop
-refused-at-requires c κs = search needs
 
 returns : tie.Need-returns Inv-loop μ-loop
 returns c =
@@ -106,9 +79,6 @@ returns c =
       (r .1 .0 ∙ refused-none _ _ _ (r .0), (r .1 .1 .0 ∙ short-none _ _ _ _ (r .0), (r .1 .1 .1 ∙ size-none _ _ _ _ (r .0), omega (arith, r .1 .1 .1)))),
     )
 
-enum-known-said : tie.Need-enum-known-said Inv-loop μ-loop
-enum-known-said c = search needs
-
 returns-2 : tie.Need-returns-2 Inv-loop μ-loop
 unfolding fieldsOn shortOn sizeOn entriesBy
 returns-2 c =
@@ -117,18 +87,6 @@ returns-2 c =
     let w = turn-done k is in
     let are = numbers-are _ _ _ (entries-good _ _ _) in
     (turn-end k is, (weighed-fields are w, (weighed-short are w, (weighed-size are w, weighed-small w))))
-
-enum-known-number-2 : tie.Need-enum-known-number-2 Inv-loop μ-loop
-enum-known-number-2 c = search needs
-
-with-requires : tie.Need-with-requires Inv-loop μ-loop
-with-requires c κs = search needs
-
-with-short-requires : tie.Need-with-short-requires Inv-loop μ-loop
-with-short-requires c κs = search needs
-
-written-size-requires : tie.Need-written-size-requires Inv-loop μ-loop
-written-size-requires c κs = search needs
 
 add-size : tie.Need-add-size Inv-loop μ-loop
 add-size c =
@@ -151,9 +109,6 @@ loop-again c =
     turn-next k is
     (weighing-next (decoded-bounded _) (turn-here k is) (turn-good k is) _ (c .written-size .ensures) (c .before .before .with .ensures) (c .before .with-short .ensures))
 
-refused-at-requires-2 : tie.Need-refused-at-requires-2 Inv-loop μ-loop
-refused-at-requires-2 c κs = search needs
-
 returns-3 : tie.Need-returns-3 Inv-loop μ-loop
 returns-3 c = absurd (omega (arith, c .before .loop-test .left, c .before .before .loop .inv .inside))
 
@@ -163,26 +118,26 @@ weigh-fields-spec =
     (tie.spec
     Inv-loop
     μ-loop
-    count-in-requires
-    none-requires
-    none-requires-2
+    (λ c κs. search needs)
+    (λ c κs. search needs)
+    (λ c κs. search needs)
     loop-holds
-    sub-judge
-    part-judge-start
-    part-judge-end
-    judge-requires
-    enum-known-number
-    refused-at-requires
+    (λ c. search needs)
+    (λ c. search needs)
+    (λ c. search needs)
+    (λ c κs. search needs)
+    (λ c. search needs)
+    (λ c κs. search needs)
     returns
-    enum-known-said
+    (λ c. search needs)
     returns-2
-    enum-known-number-2
-    with-requires
-    with-short-requires
-    written-size-requires
+    (λ c. search needs)
+    (λ c κs. search needs)
+    (λ c κs. search needs)
+    (λ c κs. search needs)
     add-size
     add-at
     loop-less
     loop-again
-    refused-at-requires-2
+    (λ c κs. search needs)
     returns-3)

@@ -7,12 +7,6 @@ use Rattle.message_write.proofs.with_short.Tie as tie
 use Rattle.bitmap.proofs.FieldSet.with.Reads as with-reads
 use Rattle.field_write.proofs.is_short.Reads as is-short-reads
 
-is-short-requires : tie.Need-is-short-requires
-is-short-requires c κs = search needs
-
-with-requires : tie.Need-with-requires
-with-requires c κs = search needs
-
 returns : tie.Need-returns
 returns c = search (short-one, needs)
 
@@ -20,4 +14,4 @@ returns-2 : tie.Need-returns-2
 returns-2 c = search (short-not, needs)
 
 pub with-short-spec : {M : Type 1} → statement M
-with-short-spec = tie.close (tie.spec is-short-requires with-requires returns returns-2)
+with-short-spec = tie.close (tie.spec (λ c κs. search needs) (λ c κs. search needs) returns returns-2)

@@ -56,29 +56,11 @@ fits c = writing-fits (decoded-bounded _) (writing-at (c .before)) (c .written-s
 loop-holds : tie.Need-loop-holds Inv-loop μ-loop
 loop-holds c = let s = c .before .before .before .before in reading-first (s .pre .0) (writing-first (cleared _ _ _ _ (s .pre .1 .0)))
 
-sub-read-note : tie.Need-sub-read-note Inv-loop μ-loop
-sub-read-note c = search needs
-
-part-read-note-start : tie.Need-part-read-note-start Inv-loop μ-loop
-part-read-note-start c = search needs
-
-part-read-note-end : tie.Need-part-read-note-end Inv-loop μ-loop
-part-read-note-end c = search needs
-
-read-note-requires : tie.Need-read-note-requires Inv-loop μ-loop
-read-note-requires c κs = search needs
-
-enum-told : tie.Need-enum-told Inv-loop μ-loop
-enum-told c = search needs
-
 same-length : tie.Need-same-length Inv-loop μ-loop
 same-length c = here (c .before .before) .loop .inv .holds .written .size
 
 returns : tie.Need-returns Inv-loop μ-loop
 returns c = writing-done (read-malformed (turn-at (c .before .before)) (c .enum-told .given .1))
-
-enum-told-2 : tie.Need-enum-told-2 Inv-loop μ-loop
-enum-told-2 c = search needs
 
 same-length-2 : tie.Need-same-length-2 Inv-loop μ-loop
 same-length-2 c = here (c .before .before) .loop .inv .holds .written .size
@@ -86,20 +68,8 @@ same-length-2 c = here (c .before .before) .loop .inv .holds .written .size
 returns-2 : tie.Need-returns-2 Inv-loop μ-loop
 returns-2 c = writing-done (read-end (turn-at (c .before .before)) (c .enum-told2 .given .1))
 
-enum-known-number : tie.Need-enum-known-number Inv-loop μ-loop
-enum-known-number c = search needs
-
 add-end : tie.Need-add-end Inv-loop μ-loop
 add-end c = omega (arith, writing-taken (decoded-bounded _) (writing-at c) .place, start (here (read-in c)) .good .0)
-
-written-size-requires : tie.Need-written-size-requires Inv-loop μ-loop
-written-size-requires c κs = search needs
-
-sub-put-field : tie.Need-sub-put-field Inv-loop μ-loop
-sub-put-field c = search needs
-
-part-put-field-start : tie.Need-part-put-field-start Inv-loop μ-loop
-part-put-field-start c = search needs
 
 part-put-field-end : tie.Need-part-put-field-end Inv-loop μ-loop
 part-put-field-end c = writing-taken (decoded-bounded _) (writing-at (c .before)) .place
@@ -109,12 +79,6 @@ sub-put-field-2 c = omega (arith, fits (c .before))
 
 part-put-field-start-2 : tie.Need-part-put-field-start-2 Inv-loop μ-loop
 part-put-field-start-2 c = omega (arith, fits (c .before))
-
-part-put-field-end-2 : tie.Need-part-put-field-end-2 Inv-loop μ-loop
-part-put-field-end-2 c = search needs
-
-put-field-requires : tie.Need-put-field-requires Inv-loop μ-loop
-put-field-requires c κs = search needs
 
 add-written : tie.Need-add-written Inv-loop μ-loop
 add-written c = omega (arith, fits (c .before .before .before .before .before))
@@ -149,26 +113,26 @@ write-body-spec =
     Inv-loop
     μ-loop
     loop-holds
-    sub-read-note
-    part-read-note-start
-    part-read-note-end
-    read-note-requires
-    enum-told
+    (λ c. search needs)
+    (λ c. search needs)
+    (λ c. search needs)
+    (λ c κs. search needs)
+    (λ c. search needs)
     same-length
     returns
-    enum-told-2
+    (λ c. search needs)
     same-length-2
     returns-2
-    enum-known-number
+    (λ c. search needs)
     add-end
-    written-size-requires
-    sub-put-field
-    part-put-field-start
+    (λ c κs. search needs)
+    (λ c. search needs)
+    (λ c. search needs)
     part-put-field-end
     sub-put-field-2
     part-put-field-start-2
-    part-put-field-end-2
-    put-field-requires
+    (λ c. search needs)
+    (λ c κs. search needs)
     add-written
     add-at
     loop-less

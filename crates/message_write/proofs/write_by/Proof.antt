@@ -10,18 +10,6 @@ use Rattle.message_write.proofs.name_padded.Reads as name-padded-reads
 use Rattle.message_write.proofs.weigh.Reads as weigh-reads
 use Rattle.message_write.proofs.write_ended.Reads as write-ended-reads
 
-weigh-requires : tie.Need-weigh-requires
-weigh-requires c κs = search needs
-
-enum-known-end : tie.Need-enum-known-end
-enum-known-end c = search needs
-
-none-requires : tie.Need-none-requires
-none-requires c κs = search needs
-
-enum-known-end-2 : tie.Need-enum-known-end-2
-enum-known-end-2 c = search needs
-
 write-ended-requires : tie.Need-write-ended-requires
 write-ended-requires c κs =
     let k = c .before in
@@ -31,18 +19,12 @@ write-ended-requires c κs =
     let a = by-asked _ _ _ _ _ (w .0) _ _ h (s .pre) _ (w .1 .0) in
     (a .head, (a .clean, (a .named, (by-size _ _ _ _ _ (w .0) _ _ h _ (w .1 .1 .1 .0), w .1 .1 .1 .1))))
 
-name-padded-requires : tie.Need-name-padded-requires
-name-padded-requires c κs = search needs
-
 returns : tie.Need-returns
 returns c =
     let k = c .before in
     let w = k .before .before .before .weigh .ensures in
     let h = k .before .end .given .1 in
     (by-refused _ _ _ _ _ (w .0) _ _ h, (c .none .ensures ∙ refused-padded _ _ _ _ _ (w .0) _ _ h, refused-left _ _ _ _ _ (w .0) _ _ h))
-
-same-length : tie.Need-same-length
-same-length c = search needs
 
 returns-2 : tie.Need-returns-2
 returns-2 c =
@@ -59,12 +41,12 @@ pub write-by-spec : {M : Type 1} → statement M
 write-by-spec =
     tie.close
     (tie.spec
-    weigh-requires
-    enum-known-end
-    none-requires
-    enum-known-end-2
+    (λ c κs. search needs)
+    (λ c. search needs)
+    (λ c κs. search needs)
+    (λ c. search needs)
     write-ended-requires
-    name-padded-requires
+    (λ c κs. search needs)
     returns
-    same-length
+    (λ c. search needs)
     returns-2)

@@ -36,9 +36,6 @@ sized-at : (c : tie.After-count-in) → length (message c) ≡ 4 + 8 * (c .count
 sized-at c =
     asked-size _ _ _ _ (asked-at (start c)) (decoded-bounded _) (start c .args .size) (start c .pre .1 .1 .1 .0) ∙ omega (arith, c .count-in .ensures)
 
-count-in-requires : tie.Need-count-in-requires
-count-in-requires c κs = search needs
-
 mul-length : tie.Need-mul-length
 mul-length c = omega (arith, three-at c)
 
@@ -62,9 +59,6 @@ write-message-requires c κs =
     let s = start m in
     (s .pre .0, (s .pre .1 .0, (s .pre .1 .1 .0, omega (arith, sized-at m, c .before .if2 .left))))
 
-same-length : tie.Need-same-length
-same-length c = search needs
-
 returns-3 : tie.Need-returns-3
 returns-3 c =
     let fits = c .before .before .before .before in
@@ -75,12 +69,12 @@ pub write-ended-spec : {M : Type 1} → statement M
 write-ended-spec =
     tie.close
     (tie.spec
-    count-in-requires
+    (λ c κs. search needs)
     mul-length
     add-length
     add-length-2
     returns
     returns-2
     write-message-requires
-    same-length
+    (λ c. search needs)
     returns-3)

@@ -44,32 +44,11 @@ headed c = c .before .before .before .before
 size-at : (c : tie.After-put-arg2) → length (c .before .before .before .before .put .last .1 .0) ≡ length (start (begun c) .args .out .now)
 size-at c = c .before .before .before .out .given
 
-count-in-requires : tie.Need-count-in-requires
-count-in-requires c κs = search needs
-
-of-requires : tie.Need-of-requires
-of-requires c κs = search needs
-
-to-bytes-requires : tie.Need-to-bytes-requires
-to-bytes-requires c κs = search needs
-
 mul-size : tie.Need-mul-size
 mul-size c = omega (arith, room-at c)
 
 add-start : tie.Need-add-start
 add-start c = omega (arith, room-at c)
-
-mti-in-requires : tie.Need-mti-in-requires
-mti-in-requires c κs = search needs
-
-put-requires : tie.Need-put-requires
-put-requires c κs = search needs
-
-sub-put : tie.Need-sub-put
-sub-put c = search needs
-
-part-put-start : tie.Need-part-put-start
-part-put-start c = search needs
 
 part-put-end : tie.Need-part-put-end
 part-put-end c =
@@ -82,29 +61,17 @@ sub-put-2 c = omega (arith, room-at (begun c), size-at c)
 part-put-start-2 : tie.Need-part-put-start-2
 part-put-start-2 c = omega (arith, room-at (begun c), size-at c)
 
-part-put-end-2 : tie.Need-part-put-end-2
-part-put-end-2 c = search needs
-
-put-requires-2 : tie.Need-put-requires-2
-put-requires-2 c κs = search needs
-
 sub-write-body : tie.Need-sub-write-body
 sub-write-body c = omega (arith, room-at (begun (headed c)), size-at (headed c), c .before .out2 .given)
 
 part-write-body-start : tie.Need-part-write-body-start
 part-write-body-start c = omega (arith, room-at (begun (headed c)), size-at (headed c), c .before .out2 .given)
 
-part-write-body-end : tie.Need-part-write-body-end
-part-write-body-end c = search needs
-
 write-body-requires : tie.Need-write-body-requires
 write-body-requires c κs =
     let k = headed (c .before) in
     let s = start (begun k) in
     (asked-head _ _ _ _ (asked-at s) .whole, (s .pre .1 .0, omega (arith, room-at (begun k), size-at k, c .before .before .out2 .given, c .write-body-arg .given .1)))
-
-same-length : tie.Need-same-length
-same-length c = search needs
 
 returns : tie.Need-returns
 returns c =
@@ -122,23 +89,23 @@ pub write-message-spec : {M : Type 1} → statement M
 write-message-spec =
     tie.close
     (tie.spec
-    count-in-requires
-    of-requires
-    to-bytes-requires
+    (λ c κs. search needs)
+    (λ c κs. search needs)
+    (λ c κs. search needs)
     mul-size
     add-start
-    mti-in-requires
-    put-requires
-    sub-put
-    part-put-start
+    (λ c κs. search needs)
+    (λ c κs. search needs)
+    (λ c. search needs)
+    (λ c. search needs)
     part-put-end
     sub-put-2
     part-put-start-2
-    part-put-end-2
-    put-requires-2
+    (λ c. search needs)
+    (λ c κs. search needs)
     sub-write-body
     part-write-body-start
-    part-write-body-end
+    (λ c. search needs)
     write-body-requires
-    same-length
+    (λ c. search needs)
     returns)

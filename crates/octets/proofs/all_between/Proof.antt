@@ -9,13 +9,10 @@ use borrow.Author.Needs.{needs}
 use Rattle.octets.proofs.all_between.Statement.{statement}
 use Rattle.octets.proofs.all_between.Tie as tie
 
-lead-between-requires : tie.Need-lead-between-requires
-lead-between-requires c κs = search needs
-
 returns : tie.Need-returns
 returns c =
     let a = c .before .before .args in
     ap (λ (n : ℕ). eqb n (length (a .s .now))) (c .lead-between .ensures) ∙ lead-all (between (a .low) (a .high)) (a .s .now)
 
 pub all-between-spec : {M : Type 1} → statement M
-all-between-spec = tie.close (tie.spec lead-between-requires returns)
+all-between-spec = tie.close (tie.spec (λ c κs. search needs) returns)

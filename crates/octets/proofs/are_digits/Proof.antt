@@ -7,11 +7,8 @@ use Rattle.octets.proofs.are_digits.Tie as tie
 returns : tie.Need-returns
 returns c = search (are-digits-not, needs)
 
-all-between-requires : tie.Need-all-between-requires
-all-between-requires c κs = search needs
-
 returns-2 : tie.Need-returns-2
 returns-2 c = search (are-digits-tested, needs)
 
 pub are-digits-spec : {M : Type 1} → statement M
-are-digits-spec = tie.close (tie.spec returns all-between-requires returns-2)
+are-digits-spec = tie.close (tie.spec returns (λ c κs. search needs) returns-2)

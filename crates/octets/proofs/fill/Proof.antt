@@ -9,14 +9,8 @@ use Rattle.octets.proofs.fill.Tie as tie
 returns : tie.Need-returns
 returns c = placed-short _ _ _ (length-replicate _ _) (c .if1 .taken)
 
-fill-fitting-requires : tie.Need-fill-fitting-requires
-fill-fitting-requires c κs = search needs
-
-same-length : tie.Need-same-length
-same-length c = search needs
-
 returns-2 : tie.Need-returns-2
 returns-2 c = search (placed-done, length-replicate, needs)
 
 pub fill-spec : {M : Type 1} → statement M
-fill-spec = tie.close (tie.spec returns fill-fitting-requires same-length returns-2)
+fill-spec = tie.close (tie.spec returns (λ c κs. search needs) (λ c. search needs) returns-2)

@@ -9,14 +9,8 @@ use Rattle.octets.proofs.put.Tie as tie
 returns : tie.Need-returns
 returns c = placed-short _ _ _ refl (c .if1 .taken)
 
-put-fitting-requires : tie.Need-put-fitting-requires
-put-fitting-requires c κs = search needs
-
-same-length : tie.Need-same-length
-same-length c = search needs
-
 returns-2 : tie.Need-returns-2
 returns-2 c = search (placed-done, needs)
 
 pub put-spec : {M : Type 1} → statement M
-put-spec = tie.close (tie.spec returns put-fitting-requires same-length returns-2)
+put-spec = tie.close (tie.spec returns (λ c κs. search needs) (λ c. search needs) returns-2)

@@ -17,29 +17,11 @@ Inv-loop n base first w out₀ left₀ k₀ out left k = (k ≤ w) × ((length o
 abbrev μ-loop : tie.MeasureT-loop
 μ-loop n base first w out₀ left₀ k₀ out left k = k
 
-loop-holds : tie.Need-loop-holds Inv-loop μ-loop
-loop-holds c = search needs
-
-sub-k : tie.Need-sub-k Inv-loop μ-loop
-sub-k c = search needs
-
-rem-out : tie.Need-rem-out Inv-loop μ-loop
-rem-out c = search needs
-
 cast-out : tie.Need-cast-out Inv-loop μ-loop
 cast-out c = omega (arith, mod-lt (c .before .loop .left) {m = c .before .before .args .base} (omega arith))
 
 add-out : tie.Need-add-out Inv-loop μ-loop
 add-out c = omega (arith, mod-lt (c .before .loop .left) {m = c .before .before .args .base} (omega arith))
-
-slice-write-out : tie.Need-slice-write-out Inv-loop μ-loop
-slice-write-out c = search needs
-
-div-left : tie.Need-div-left Inv-loop μ-loop
-div-left c = search needs
-
-loop-less : tie.Need-loop-less Inv-loop μ-loop
-loop-less c = search needs
 
 loop-again : tie.Need-loop-again Inv-loop μ-loop
 loop-again c =
@@ -47,9 +29,6 @@ loop-again c =
       omega arith,
       (simp length-set (l .inv .1 .0), l .inv .1 .1 ∙ digit-step _ _ _ _ _ (c .loop-test .taken) (omega arith)),
     )
-
-same-length : tie.Need-same-length Inv-loop μ-loop
-same-length c = search needs
 
 returns : tie.Need-returns Inv-loop μ-loop
 returns c =
@@ -63,14 +42,14 @@ put-digits-spec =
     (tie.spec
     Inv-loop
     μ-loop
-    loop-holds
-    sub-k
-    rem-out
+    (λ c. search needs)
+    (λ c. search needs)
+    (λ c. search needs)
     cast-out
     add-out
-    slice-write-out
-    div-left
-    loop-less
+    (λ c. search needs)
+    (λ c. search needs)
+    (λ c. search needs)
     loop-again
-    same-length
+    (λ c. search needs)
     returns)

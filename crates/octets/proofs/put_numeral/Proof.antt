@@ -7,15 +7,6 @@ use borrow.Author.Needs.{needs}
 use Rattle.octets.proofs.put_numeral.Statement.{statement}
 use Rattle.octets.proofs.put_numeral.Tie as tie
 
-digit-count-requires : tie.Need-digit-count-requires
-digit-count-requires c κs = search needs
-
-put-decimal-requires : tie.Need-put-decimal-requires
-put-decimal-requires c κs = search needs
-
-same-length : tie.Need-same-length
-same-length c = search needs
-
 returns : tie.Need-returns
 unfolding numeral
 returns c =
@@ -24,4 +15,4 @@ returns c =
 
 pub put-numeral-spec : {M : Type 1} → statement M
 put-numeral-spec =
-    tie.close (tie.spec digit-count-requires put-decimal-requires same-length returns)
+    tie.close (tie.spec (λ c κs. search needs) (λ c κs. search needs) (λ c. search needs) returns)

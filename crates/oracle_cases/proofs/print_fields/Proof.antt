@@ -12,33 +12,15 @@ Inv-loop values notes field₀ field = field ≤ 65
 abbrev μ-loop : tie.MeasureT-loop
 μ-loop values notes field₀ field = 65 - field
 
-loop-holds : tie.Need-loop-holds Inv-loop μ-loop
-loop-holds c = search needs
-
-print-field-requires : tie.Need-print-field-requires Inv-loop μ-loop
-print-field-requires c κs = search needs
-
-add-field : tie.Need-add-field Inv-loop μ-loop
-add-field c = search needs
-
-loop-less : tie.Need-loop-less Inv-loop μ-loop
-loop-less c = search needs
-
-loop-again : tie.Need-loop-again Inv-loop μ-loop
-loop-again c = search needs
-
-returns : tie.Need-returns Inv-loop μ-loop
-returns c = search needs
-
 pub print-fields-spec : {M : Type 1} → statement M
 print-fields-spec =
     tie.close
     (tie.spec
     Inv-loop
     μ-loop
-    loop-holds
-    print-field-requires
-    add-field
-    loop-less
-    loop-again
-    returns)
+    (λ c. search needs)
+    (λ c κs. search needs)
+    (λ c. search needs)
+    (λ c. search needs)
+    (λ c. search needs)
+    (λ c. search needs))

@@ -5,27 +5,9 @@ use borrow.Author.Needs.{needs}
 use Rattle.packed_field.proofs.carry.Statement.{statement}
 use Rattle.packed_field.proofs.carry.Tie as tie
 
-enum-told : tie.Need-enum-told
-enum-told c = search needs
-
-encode-requires : tie.Need-encode-requires
-encode-requires c κs = search needs
-
-enum-told-2 : tie.Need-enum-told-2
-enum-told-2 c = search needs
-
-decode-requires : tie.Need-decode-requires
-decode-requires c κs = search needs
-
-same-length : tie.Need-same-length
-same-length c = search needs
-
 returns : tie.Need-returns
 unfolding carriedInto
 returns c = search (carried-is, needs)
-
-same-length-2 : tie.Need-same-length-2
-same-length-2 c = search needs
 
 returns-2 : tie.Need-returns-2
 unfolding carriedInto
@@ -35,11 +17,11 @@ pub carry-spec : {M : Type 1} → statement M
 carry-spec =
     tie.close
     (tie.spec
-    enum-told
-    encode-requires
-    enum-told-2
-    decode-requires
-    same-length
+    (λ c. search needs)
+    (λ c κs. search needs)
+    (λ c. search needs)
+    (λ c κs. search needs)
+    (λ c. search needs)
     returns
-    same-length-2
+    (λ c. search needs)
     returns-2)

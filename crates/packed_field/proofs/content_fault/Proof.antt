@@ -4,12 +4,6 @@ use borrow.Author.Needs.{needs}
 use Rattle.packed_field.proofs.content_fault.Statement.{statement}
 use Rattle.packed_field.proofs.content_fault.Tie as tie
 
-is-numeric-requires : tie.Need-is-numeric-requires
-is-numeric-requires c κs = search needs
-
-digits-fault-requires : tie.Need-digits-fault-requires
-digits-fault-requires c κs = search needs
-
 returns : tie.Need-returns
 returns c = search (fault-numeric, needs)
 
@@ -18,4 +12,4 @@ returns-2 c = search (fault-other, needs)
 
 pub content-fault-spec : {M : Type 1} → statement M
 content-fault-spec =
-    tie.close (tie.spec is-numeric-requires digits-fault-requires returns returns-2)
+    tie.close (tie.spec (λ c κs. search needs) (λ c κs. search needs) returns returns-2)

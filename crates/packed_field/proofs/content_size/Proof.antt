@@ -4,12 +4,6 @@ use borrow.Author.Needs.{needs}
 use Rattle.packed_field.proofs.content_size.Statement.{statement}
 use Rattle.packed_field.proofs.content_size.Tie as tie
 
-is-numeric-requires : tie.Need-is-numeric-requires
-is-numeric-requires c κs = search needs
-
-size-of-requires : tie.Need-size-of-requires
-size-of-requires c κs = search needs
-
 returns : tie.Need-returns
 returns c = search (size-numeric, needs)
 
@@ -17,4 +11,4 @@ returns-2 : tie.Need-returns-2
 returns-2 c = search (size-other, needs)
 
 pub content-size-spec : {M : Type 1} → statement M
-content-size-spec = tie.close (tie.spec is-numeric-requires size-of-requires returns returns-2)
+content-size-spec = tie.close (tie.spec (λ c κs. search needs) (λ c κs. search needs) returns returns-2)

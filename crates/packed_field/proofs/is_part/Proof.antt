@@ -5,18 +5,6 @@ use borrow.Author.Needs.{needs}
 use Rattle.packed_field.proofs.is_part.Statement.{statement}
 use Rattle.packed_field.proofs.is_part.Tie as tie
 
-enum-told : tie.Need-enum-told
-enum-told c = search needs
-
-is-between-requires : tie.Need-is-between-requires
-is-between-requires c κs = search needs
-
-enum-told-2 : tie.Need-enum-told-2
-enum-told-2 c = search needs
-
-is-bcd-requires : tie.Need-is-bcd-requires
-is-bcd-requires c κs = search needs
-
 returns : tie.Need-returns
 unfolding isPart
 returns c = search (part-is, needs)
@@ -28,4 +16,4 @@ returns-2 c = search (part-is, needs)
 pub is-part-spec : {M : Type 1} → statement M
 is-part-spec =
     tie.close
-    (tie.spec enum-told is-between-requires enum-told-2 is-bcd-requires returns returns-2)
+    (tie.spec (λ c. search needs) (λ c κs. search needs) (λ c. search needs) (λ c κs. search needs) returns returns-2)

@@ -8,18 +8,6 @@ use borrow.Author.Needs.{needs}
 use Rattle.packed_field.proofs.judge_item.Statement.{statement}
 use Rattle.packed_field.proofs.judge_item.Tie as tie
 
-class-in-requires : tie.Need-class-in-requires
-class-in-requires c κs = search needs
-
-place-item-requires : tie.Need-place-item-requires
-place-item-requires c κs = search needs
-
-enum-known-fault : tie.Need-enum-known-fault
-enum-known-fault c = search needs
-
-enum-known-start : tie.Need-enum-known-start
-enum-known-start c = search needs
-
 -- what is found lies within the rest
 within : (c : tie.After-start) → c .start .given .0 .0 + c .start .given .0 .1 .1 .0 ≤ length (c .before .before .before .before .before .before .args .rest .now)
 within c = placed-within _ _ _ _ _ _ _ _ _ (c .before .before .place-item .ensures) (c .start .given .1)
@@ -27,20 +15,8 @@ within c = placed-within _ _ _ _ _ _ _ _ _ (c .before .before .place-item .ensur
 add-end : tie.Need-add-end
 add-end c = omega (arith, within (c .before))
 
-sub-is-content : tie.Need-sub-is-content
-sub-is-content c = search needs
-
-part-is-content-start : tie.Need-part-is-content-start
-part-is-content-start c = search needs
-
 part-is-content-end : tie.Need-part-is-content-end
 part-is-content-end c = omega (arith, within (c .before))
-
-is-content-requires : tie.Need-is-content-requires
-is-content-requires c κs = search needs
-
-content-fault-requires : tie.Need-content-fault-requires
-content-fault-requires c κs = search needs
 
 returns : tie.Need-returns
 returns c = search (judge-bad, needs)
@@ -55,16 +31,16 @@ pub judge-item-spec : {M : Type 1} → statement M
 judge-item-spec =
     tie.close
     (tie.spec
-    class-in-requires
-    place-item-requires
-    enum-known-fault
-    enum-known-start
+    (λ c κs. search needs)
+    (λ c κs. search needs)
+    (λ c. search needs)
+    (λ c. search needs)
     add-end
-    sub-is-content
-    part-is-content-start
+    (λ c. search needs)
+    (λ c. search needs)
     part-is-content-end
-    is-content-requires
-    content-fault-requires
+    (λ c κs. search needs)
+    (λ c κs. search needs)
     returns
     returns-2
     returns-3)

@@ -16,23 +16,8 @@ Inv-loop s script i₀ i = (i ≤ length s) × (lead (isPart script) s ≡ i + l
 abbrev μ-loop : tie.MeasureT-loop
 μ-loop s script i₀ i = length s - i
 
-loop-holds : tie.Need-loop-holds Inv-loop μ-loop
-loop-holds c = search needs
-
-shared-slice-read-is-part : tie.Need-shared-slice-read-is-part Inv-loop μ-loop
-shared-slice-read-is-part c = search needs
-
-is-part-requires : tie.Need-is-part-requires Inv-loop μ-loop
-is-part-requires c κs = search needs
-
 returns : tie.Need-returns Inv-loop μ-loop
 returns c = search (lead-stops, tested-false, needs)
-
-add-i : tie.Need-add-i Inv-loop μ-loop
-add-i c = search needs
-
-loop-less : tie.Need-loop-less Inv-loop μ-loop
-loop-less c = search needs
 
 loop-again : tie.Need-loop-again Inv-loop μ-loop
 loop-again c = (search needs, search (lead-next, tested-true, needs))
@@ -46,11 +31,11 @@ lead-parts-spec =
     (tie.spec
     Inv-loop
     μ-loop
-    loop-holds
-    shared-slice-read-is-part
-    is-part-requires
+    (λ c. search needs)
+    (λ c. search needs)
+    (λ c κs. search needs)
     returns
-    add-i
-    loop-less
+    (λ c. search needs)
+    (λ c. search needs)
     loop-again
     returns-2)

@@ -8,20 +8,11 @@ use borrow.Author.Needs.{needs}
 use Rattle.packed_field.proofs.place_by.Statement.{statement}
 use Rattle.packed_field.proofs.place_by.Tie as tie
 
-size-of-requires : tie.Need-size-of-requires
-size-of-requires c κs = search needs
-
 returns : tie.Need-returns
 returns c = search (place-cut, needs)
 
 slice-aggregate-digits : tie.Need-slice-aggregate-digits
 slice-aggregate-digits c = sym (length-take-le _ (c .before .before .before .before .args .rest .now) (c .before .if1 .left))
-
-is-spelt-requires : tie.Need-is-spelt-requires
-is-spelt-requires c κs = search needs
-
-length-fault-requires : tie.Need-length-fault-requires
-length-fault-requires c κs = search needs
 
 returns-2 : tie.Need-returns-2
 returns-2 c = search (place-no-digit, needs)
@@ -32,23 +23,8 @@ content-count-requires c κs = (search needs, tested-true _ _ (c .before .is-spe
 returns-3 : tie.Need-returns-3
 returns-3 c = search (place-long, needs)
 
-content-size-requires : tie.Need-content-size-requires
-content-size-requires c κs = search needs
-
-sub-if4 : tie.Need-sub-if4
-sub-if4 c = search needs
-
 returns-4 : tie.Need-returns-4
 returns-4 c = search (place-past, needs)
-
-other-script-requires : tie.Need-other-script-requires
-other-script-requires c κs = search needs
-
-size-of-requires-2 : tie.Need-size-of-requires-2
-size-of-requires-2 c κs = search needs
-
-content-size-requires-2 : tie.Need-content-size-requires-2
-content-size-requires-2 c κs = search needs
 
 add-carried : tie.Need-add-carried
 add-carried c =
@@ -73,19 +49,19 @@ pub place-by-spec : {M : Type 1} → statement M
 place-by-spec =
     tie.close
     (tie.spec
-    size-of-requires
+    (λ c κs. search needs)
     returns
     slice-aggregate-digits
-    is-spelt-requires
-    length-fault-requires
+    (λ c κs. search needs)
+    (λ c κs. search needs)
     returns-2
     content-count-requires
     returns-3
-    content-size-requires
-    sub-if4
+    (λ c κs. search needs)
+    (λ c. search needs)
     returns-4
-    other-script-requires
-    size-of-requires-2
-    content-size-requires-2
+    (λ c κs. search needs)
+    (λ c κs. search needs)
+    (λ c κs. search needs)
     add-carried
     returns-5)

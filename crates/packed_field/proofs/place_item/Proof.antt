@@ -4,15 +4,6 @@ use borrow.Author.Needs.{needs}
 use Rattle.packed_field.proofs.place_item.Statement.{statement}
 use Rattle.packed_field.proofs.place_item.Tie as tie
 
-width-in-requires : tie.Need-width-in-requires
-width-in-requires c κs = search needs
-
-most-in-requires : tie.Need-most-in-requires
-most-in-requires c κs = search needs
-
-class-in-requires : tie.Need-class-in-requires
-class-in-requires c κs = search needs
-
 place-by-requires : tie.Need-place-by-requires
 place-by-requires c κs = (c .before .before .width-in .ensures .1, most-small _ _ _ (c .before .most-in .ensures))
 
@@ -22,4 +13,4 @@ returns c = placed-by _ _ _ _ _ _ _ _ (c .before .before .before .width-in .ensu
 pub place-item-spec : {M : Type 1} → statement M
 place-item-spec =
     tie.close
-    (tie.spec width-in-requires most-in-requires class-in-requires place-by-requires returns)
+    (tie.spec (λ c κs. search needs) (λ c κs. search needs) (λ c κs. search needs) place-by-requires returns)

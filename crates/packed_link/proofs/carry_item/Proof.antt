@@ -20,34 +20,13 @@ left c =
     first-left _ _ _ _ _ _ _ _ (start c .pre .1 .0) _ _ _ _ (c .before .before .before .before .before .before .before .before .width-in .ensures .0)
     (c .before .before .other-script .ensures) (c .before .size-of .ensures) (c .class-in .ensures)
 
-width-in-requires : tie.Need-width-in-requires
-width-in-requires c κs = search needs
-
 slice-aggregate-carry : tie.Need-slice-aggregate-carry
 slice-aggregate-carry c =
     let p = c .before .before .before .before .before in
     sym (length-take-le _ (p .args .rest .now) (omega (arith, item-within _ _ _ _ _ _ _ _ (p .pre .1 .0))))
 
-carry-requires : tie.Need-carry-requires
-carry-requires c κs = search needs
-
-other-script-requires : tie.Need-other-script-requires
-other-script-requires c κs = search needs
-
-size-of-requires : tie.Need-size-of-requires
-size-of-requires c κs = search needs
-
-class-in-requires : tie.Need-class-in-requires
-class-in-requires c κs = search needs
-
 add-end : tie.Need-add-end
 add-end c = omega (arith, item-within _ _ _ _ _ _ _ _ (start c .pre .1 .0), start c .good .0)
-
-sub-carry-content : tie.Need-sub-carry-content
-sub-carry-content c = search needs
-
-part-carry-content-start : tie.Need-part-carry-content-start
-part-carry-content-start c = search needs
 
 part-carry-content-end : tie.Need-part-carry-content-end
 part-carry-content-end c = omega (arith, item-within _ _ _ _ _ _ _ _ (start c .pre .1 .0))
@@ -58,18 +37,12 @@ sub-carry-content-2 c = omega (arith, left (c .before), start (c .before) .pre .
 part-carry-content-start-2 : tie.Need-part-carry-content-start-2
 part-carry-content-start-2 c = omega (arith, left (c .before), start (c .before) .pre .1 .1, c .before .before .before .before .before .out .given)
 
-part-carry-content-end-2 : tie.Need-part-carry-content-end-2
-part-carry-content-end-2 c = search needs
-
 carry-content-requires : tie.Need-carry-content-requires
 carry-content-requires c κs =
     let k = c .before .before in
     let p = start k .pre in
     let q = content-asked _ _ _ _ _ _ _ _ (p .1 .0) _ (k .class-in .ensures) in
     (q .0, (q .1, omega (arith, left k, p .1 .1, k .before .before .before .before .out .given, c .carry-content-arg2 .given)))
-
-same-length : tie.Need-same-length
-same-length c = search needs
 
 returns : tie.Need-returns
 returns c =
@@ -82,19 +55,19 @@ pub carry-item-spec : {M : Type 1} → statement M
 carry-item-spec =
     tie.close
     (tie.spec
-    width-in-requires
+    (λ c κs. search needs)
     slice-aggregate-carry
-    carry-requires
-    other-script-requires
-    size-of-requires
-    class-in-requires
+    (λ c κs. search needs)
+    (λ c κs. search needs)
+    (λ c κs. search needs)
+    (λ c κs. search needs)
     add-end
-    sub-carry-content
-    part-carry-content-start
+    (λ c. search needs)
+    (λ c. search needs)
     part-carry-content-end
     sub-carry-content-2
     part-carry-content-start-2
-    part-carry-content-end-2
+    (λ c. search needs)
     carry-content-requires
-    same-length
+    (λ c. search needs)
     returns)

@@ -17,24 +17,6 @@ abbrev μ-loop : tie.MeasureT-loop
 loop-holds : tie.Need-loop-holds Inv-loop μ-loop
 loop-holds c = scan-first (c .before .before .before .pre .0)
 
-shared-slice-read-wide : tie.Need-shared-slice-read-wide Inv-loop μ-loop
-shared-slice-read-wide c = search needs
-
-wide-requires : tie.Need-wide-requires Inv-loop μ-loop
-wide-requires c κs = search needs
-
-sub-judge-item : tie.Need-sub-judge-item Inv-loop μ-loop
-sub-judge-item c = search needs
-
-part-judge-item-start : tie.Need-part-judge-item-start Inv-loop μ-loop
-part-judge-item-start c = search needs
-
-part-judge-item-end : tie.Need-part-judge-item-end Inv-loop μ-loop
-part-judge-item-end c = search needs
-
-judge-item-requires : tie.Need-judge-item-requires Inv-loop μ-loop
-judge-item-requires c κs = search needs
-
 -- the turn of the loop in which a field was met and judged
 abbrev here : tie.After-judge-item Inv-loop μ-loop → tie.At-loop Inv-loop μ-loop
 here c = c .before .before .before .before .before
@@ -45,16 +27,10 @@ start c = here c .before .before .before .before
 met-at : (c : tie.After-judge-item Inv-loop μ-loop) → Met (start c .args .script) (start c .args .table .now) (start c .args .input .now) (start c .args .fields .now) (here c .loop .at) (here c .loop .i) (c .before .before .wide .result) (c .judge-item .result)
 met-at c = met _ _ _ _ _ _ _ _ (c .before .before .before .before .loop-test .taken) (c .before .before .wide .ensures .0) (c .judge-item .ensures)
 
-enum-known-number : tie.Need-enum-known-number Inv-loop μ-loop
-enum-known-number c = search needs
-
 returns : tie.Need-returns Inv-loop μ-loop
 returns c =
     let k = c .before .before .before in
     scan-refused (here k .loop .inv) (met-at k) (c .before .number .given .1)
-
-enum-known-start : tie.Need-enum-known-start Inv-loop μ-loop
-enum-known-start c = search needs
 
 add-at : tie.Need-add-at Inv-loop μ-loop
 add-at c =
@@ -70,9 +46,6 @@ add-written : tie.Need-add-written Inv-loop μ-loop
 add-written c =
     let k = c .before .before .before in
     omega (arith, scan-small (here k .loop .inv) (met-at k) (c .before .start .given .1), c .before .before .before .before .before .before .before .loop-test .taken, start k .pre .1 .0, start k .pre .1 .1)
-
-add-i : tie.Need-add-i Inv-loop μ-loop
-add-i c = search needs
 
 loop-less : tie.Need-loop-less Inv-loop μ-loop
 loop-less c = omega (arith, c .before .before .before .before .before .before .before .loop-test .taken)
@@ -93,19 +66,19 @@ judge-fields-spec =
     Inv-loop
     μ-loop
     loop-holds
-    shared-slice-read-wide
-    wide-requires
-    sub-judge-item
-    part-judge-item-start
-    part-judge-item-end
-    judge-item-requires
-    enum-known-number
+    (λ c. search needs)
+    (λ c κs. search needs)
+    (λ c. search needs)
+    (λ c. search needs)
+    (λ c. search needs)
+    (λ c κs. search needs)
+    (λ c. search needs)
     returns
-    enum-known-start
+    (λ c. search needs)
     add-at
     add-at-2
     add-written
-    add-i
+    (λ c. search needs)
     loop-less
     loop-again
     returns-2)

@@ -7,9 +7,6 @@ use borrow.Author.Needs.{needs}
 use Rattle.packed_link.proofs.read_head.Statement.{statement}
 use Rattle.packed_link.proofs.read_head.Tie as tie
 
-size-of-requires : tie.Need-size-of-requires
-size-of-requires c κs = search needs
-
 add-if1 : tie.Need-add-if1
 add-if1 c = omega (arith, mti-small (c .before .before .args .script), c .size-of .ensures)
 
@@ -19,17 +16,8 @@ returns c = search (head-short, needs)
 slice-aggregate-lead-parts : tie.Need-slice-aggregate-lead-parts
 slice-aggregate-lead-parts c = sym (length-take-le _ (c .before .before .before .before .args .input .now) (omega (arith, c .before .if1 .left)))
 
-lead-parts-requires : tie.Need-lead-parts-requires
-lead-parts-requires c κs = search needs
-
-mti-fault-requires : tie.Need-mti-fault-requires
-mti-fault-requires c κs = search needs
-
 returns-2 : tie.Need-returns-2
 returns-2 c = search (head-no-digit, needs)
-
-read-bitmaps-requires : tie.Need-read-bitmaps-requires
-read-bitmaps-requires c κs = search needs
 
 returns-3 : tie.Need-returns-3
 returns-3 c = search (head-maps, needs)
@@ -38,12 +26,12 @@ pub read-head-spec : {M : Type 1} → statement M
 read-head-spec =
     tie.close
     (tie.spec
-    size-of-requires
+    (λ c κs. search needs)
     add-if1
     returns
     slice-aggregate-lead-parts
-    lead-parts-requires
-    mti-fault-requires
+    (λ c κs. search needs)
+    (λ c κs. search needs)
     returns-2
-    read-bitmaps-requires
+    (λ c κs. search needs)
     returns-3)

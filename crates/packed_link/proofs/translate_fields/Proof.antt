@@ -14,26 +14,14 @@ use Rattle.packed_link.proofs.translate_fields.Tie as tie
 abbrev start : tie.After-size-of → tie.Start
 start c = c .before .before .before .before
 
-size-of-requires : tie.Need-size-of-requires
-size-of-requires c κs = search needs
-
 mul-end : tie.Need-mul-end
 mul-end c = omega (arith, head-few _ _ _ _ (omega arith) (start c .pre))
 
 add-end : tie.Need-add-end
 add-end c = omega (arith, head-few _ _ _ _ (omega arith) (start c .pre), mti-small (start c .args .script), c .size-of .ensures)
 
-sub-list-fields : tie.Need-sub-list-fields
-sub-list-fields c = search needs
-
-part-list-fields-start : tie.Need-part-list-fields-start
-part-list-fields-start c = search needs
-
 part-list-fields-end : tie.Need-part-list-fields-end
 part-list-fields-end c = omega (arith, head-room _ _ _ _ (omega arith) (start c .pre), c .size-of .ensures)
-
-list-fields-requires : tie.Need-list-fields-requires
-list-fields-requires c κs = search needs
 
 listed-few : (c : tie.After-list-fields) → c .list-fields .result .count ≤ length (c .list-fields .result .numbers)
 listed-few c =
@@ -52,25 +40,19 @@ translate-listed-requires c κs =
     let k = l .before .before in
     (start k .pre, list-is (start k .args .input .now) (k .size-of .result) (start k .args .bitmaps) _ _ _ (l .list-fields .ensures .0) (l .list-fields .ensures .1) (head-few _ _ _ _ (omega arith) (start k .pre)) ∙ ap (λ (y : ℕ). fieldsOf (mapsOf y (start k .args .input .now) (start k .args .bitmaps)) (start k .args .bitmaps)) (k .size-of .ensures))
 
-same-length : tie.Need-same-length
-same-length c = search needs
-
-returns : tie.Need-returns
-returns c = search needs
-
 pub translate-fields-spec : {M : Type 1} → statement M
 translate-fields-spec =
     tie.close
     (tie.spec
-    size-of-requires
+    (λ c κs. search needs)
     mul-end
     add-end
-    sub-list-fields
-    part-list-fields-start
+    (λ c. search needs)
+    (λ c. search needs)
     part-list-fields-end
-    list-fields-requires
+    (λ c κs. search needs)
     array-share-prefix-numbers
     slice-aggregate-translate-listed
     translate-listed-requires
-    same-length
-    returns)
+    (λ c. search needs)
+    (λ c. search needs))

@@ -21,17 +21,8 @@ start c = c .before .before .before .before .before .before .before
 mul-maps : tie.Need-mul-maps
 mul-maps c = omega (arith, head-few _ _ _ _ (omega arith) (c .before .before .before .before .pre .0))
 
-size-of-requires : tie.Need-size-of-requires
-size-of-requires c κs = search needs
-
 add-start : tie.Need-add-start
 add-start c = omega (arith, head-few _ _ _ _ (omega arith) (c .before .before .before .before .before .pre .0), mti-small (c .before .before .before .before .before .args .script), c .size-of .ensures)
-
-other-script-requires : tie.Need-other-script-requires
-other-script-requires c κs = search needs
-
-size-of-requires-2 : tie.Need-size-of-requires-2
-size-of-requires-2 c κs = search needs
 
 add-before : tie.Need-add-before
 add-before c = omega (arith, head-few _ _ _ _ (omega arith) (start c .pre .0), mti-small (c .before .other-script .result), c .size-of2 .ensures)
@@ -55,12 +46,6 @@ body c =
     sym (c .judge-fields .ensures ∙ body-is _ (decoded (start k .args .table .now)) _ _ _ (start k .pre .1) _ _ (ap (λ (y : ℕ). y + 8 * start k .args .bitmaps) (k .before .before .size-of .ensures))
     (ap (λ (y : ℕ). y + 8 * start k .args .bitmaps) (k .size-of2 .ensures ∙ ap (λ (x : Script). sizeOf x 4) (k .before .other-script .ensures))))
 
-enum-known-refusal : tie.Need-enum-known-refusal
-enum-known-refusal c = search needs
-
-enum-known-used : tie.Need-enum-known-used
-enum-known-used c = search needs
-
 returns : tie.Need-returns
 returns c =
     let k = c .before .before .before .before in
@@ -79,9 +64,6 @@ returns-2 c =
     let e = ends-refused _ _ _ _ _ _ (start (k .before) .pre .0) _ (body k ∙ c .before .refusal .given .1) in
     (e .answer, e .output)
 
-same-length : tie.Need-same-length
-same-length c = search needs
-
 returns-3 : tie.Need-returns-3
 returns-3 c =
     let w = c .before .before in
@@ -94,16 +76,16 @@ translate-listed-spec =
     tie.close
     (tie.spec
     mul-maps
-    size-of-requires
+    (λ c κs. search needs)
     add-start
-    other-script-requires
-    size-of-requires-2
+    (λ c κs. search needs)
+    (λ c κs. search needs)
     add-before
     judge-fields-requires
-    enum-known-refusal
-    enum-known-used
+    (λ c. search needs)
+    (λ c. search needs)
     returns
     write-message-requires
     returns-2
-    same-length
+    (λ c. search needs)
     returns-3)

@@ -17,24 +17,6 @@ abbrev μ-loop : tie.MeasureT-loop
 loop-holds : tie.Need-loop-holds Inv-loop μ-loop
 loop-holds c = let p = c .before .before .before .before .pre in carrying-first _ _ _ (p .0) (p .1 .0 .3) (p .1 .1)
 
-shared-slice-read-wide : tie.Need-shared-slice-read-wide Inv-loop μ-loop
-shared-slice-read-wide c = search needs
-
-wide-requires : tie.Need-wide-requires Inv-loop μ-loop
-wide-requires c κs = search needs
-
-sub-place-item : tie.Need-sub-place-item Inv-loop μ-loop
-sub-place-item c = search needs
-
-part-place-item-start : tie.Need-part-place-item-start Inv-loop μ-loop
-part-place-item-start c = search needs
-
-part-place-item-end : tie.Need-part-place-item-end Inv-loop μ-loop
-part-place-item-end c = search needs
-
-place-item-requires : tie.Need-place-item-requires Inv-loop μ-loop
-place-item-requires c κs = search needs
-
 -- the turn of the loop in which a field was met and placed
 abbrev here : tie.After-place-item Inv-loop μ-loop → tie.At-loop Inv-loop μ-loop
 here c = c .before .before .before .before .before
@@ -45,9 +27,6 @@ start c = here c .before .before .before .before .before
 met-at : (c : tie.After-place-item Inv-loop μ-loop) → Met (start c .args .script) (start c .args .table .now) (start c .args .input .now) (start c .args .fields .now) (here c .loop .at) (here c .loop .i) (c .before .before .wide .result) (c .place-item .result)
 met-at c = carrying-met (here c .loop .inv) (c .before .before .before .before .loop-test .taken) (c .before .before .wide .ensures .0) (c .place-item .ensures)
 
-enum-told : tie.Need-enum-told Inv-loop μ-loop
-enum-told c = search needs
-
 same-length : tie.Need-same-length Inv-loop μ-loop
 same-length c = here (c .before .before) .loop .inv .written .size
 
@@ -55,18 +34,6 @@ returns : tie.Need-returns Inv-loop μ-loop
 returns c =
     let k = c .before .before in
     carrying-refused (here k .loop .inv) (met-at k) (c .enum-told .given .1)
-
-enum-known-start : tie.Need-enum-known-start Inv-loop μ-loop
-enum-known-start c = search needs
-
-sub-carry-item : tie.Need-sub-carry-item Inv-loop μ-loop
-sub-carry-item c = search needs
-
-part-carry-item-start : tie.Need-part-carry-item-start Inv-loop μ-loop
-part-carry-item-start c = search needs
-
-part-carry-item-end : tie.Need-part-carry-item-end Inv-loop μ-loop
-part-carry-item-end c = search needs
 
 sub-carry-item-2 : tie.Need-sub-carry-item-2 Inv-loop μ-loop
 sub-carry-item-2 c =
@@ -77,9 +44,6 @@ part-carry-item-start-2 : tie.Need-part-carry-item-start-2 Inv-loop μ-loop
 part-carry-item-start-2 c =
     let k = c .before .before .before .before in
     omega (arith, carrying-room (here k .loop .inv) (met-at k) (c .before .before .start .given .1))
-
-part-carry-item-end-2 : tie.Need-part-carry-item-end-2 Inv-loop μ-loop
-part-carry-item-end-2 c = search needs
 
 carry-item-requires : tie.Need-carry-item-requires Inv-loop μ-loop
 carry-item-requires c κs =
@@ -106,9 +70,6 @@ add-written c =
     let k = put c .before .before in
     omega (arith, carrying-room (here k .loop .inv) (met-at k) (put c .start .given .1), here k .loop .inv .written .size, start k .good .1 .1 .1 .1 .1 .0)
 
-add-i : tie.Need-add-i Inv-loop μ-loop
-add-i c = search needs
-
 loop-less : tie.Need-loop-less Inv-loop μ-loop
 loop-less c = omega (arith, put c .before .before .before .before .before .before .loop-test .taken)
 
@@ -130,27 +91,27 @@ write-fields-spec =
     Inv-loop
     μ-loop
     loop-holds
-    shared-slice-read-wide
-    wide-requires
-    sub-place-item
-    part-place-item-start
-    part-place-item-end
-    place-item-requires
-    enum-told
+    (λ c. search needs)
+    (λ c κs. search needs)
+    (λ c. search needs)
+    (λ c. search needs)
+    (λ c. search needs)
+    (λ c κs. search needs)
+    (λ c. search needs)
     same-length
     returns
-    enum-known-start
-    sub-carry-item
-    part-carry-item-start
-    part-carry-item-end
+    (λ c. search needs)
+    (λ c. search needs)
+    (λ c. search needs)
+    (λ c. search needs)
     sub-carry-item-2
     part-carry-item-start-2
-    part-carry-item-end-2
+    (λ c. search needs)
     carry-item-requires
     add-at
     add-at-2
     add-written
-    add-i
+    (λ c. search needs)
     loop-less
     loop-again
     same-length-2

@@ -27,9 +27,6 @@ fits c =
     let p = start b .pre in
     fields-room _ (decoded (start b .args .table .now)) _ _ (start b .args .out .now) _ (p .0) (p .1 .0) _ (b .size-of .ensures) _ (c .before .other-script .ensures) _ (c .size-of2 .ensures) _ _ (p .1 .1 .2 .0) (p .1 .1 .2 .1)
 
-size-of-requires : tie.Need-size-of-requires
-size-of-requires c κs = search needs
-
 mul-maps : tie.Need-mul-maps
 mul-maps c = omega (arith, few _ (decoded (start c .args .table .now)) _ _ (start c .args .out .now) _ (start c .pre .0) (start c .pre .1 .0) _ (c .size-of .ensures))
 
@@ -38,21 +35,6 @@ add-end c = omega (arith, within c, start c .good .0)
 
 slice-aggregate-carry : tie.Need-slice-aggregate-carry
 slice-aggregate-carry c = sym (length-take-le _ (start (c .before) .args .input .now) (omega (arith, within (c .before))))
-
-carry-requires : tie.Need-carry-requires
-carry-requires c κs = search needs
-
-other-script-requires : tie.Need-other-script-requires
-other-script-requires c κs = search needs
-
-size-of-requires-2 : tie.Need-size-of-requires-2
-size-of-requires-2 c κs = search needs
-
-sub-put : tie.Need-sub-put
-sub-put c = search needs
-
-part-put-start : tie.Need-part-put-start
-part-put-start c = search needs
 
 part-put-end : tie.Need-part-put-end
 part-put-end c = omega (arith, within (begun c))
@@ -63,12 +45,6 @@ sub-put-2 c = omega (arith, fits (c .before), c .before .before .before .before 
 part-put-start-2 : tie.Need-part-put-start-2
 part-put-start-2 c = omega (arith, fits (c .before), c .before .before .before .before .out .given)
 
-part-put-end-2 : tie.Need-part-put-end-2
-part-put-end-2 c = search needs
-
-put-requires : tie.Need-put-requires
-put-requires c κs = search needs
-
 add-behind : tie.Need-add-behind
 add-behind c = omega (arith, fits (c .before .before .before .before .before), start (begun (c .before .before .before .before .before)) .good .1 .1 .1 .1 .1 .0)
 
@@ -78,9 +54,6 @@ sub-write-fields c = omega (arith, fits (c .before .before .before .before .befo
 part-write-fields-start : tie.Need-part-write-fields-start
 part-write-fields-start c = omega (arith, fits (c .before .before .before .before .before), c .before .out2 .given, c .before .before .before .before .before .before .before .before .out .given)
 
-part-write-fields-end : tie.Need-part-write-fields-end
-part-write-fields-end c = search needs
-
 write-fields-requires : tie.Need-write-fields-requires
 write-fields-requires c κs =
     let k = c .before .before .before .before .before .before in
@@ -88,9 +61,6 @@ write-fields-requires c κs =
     let p = start b .pre in
     let g = fields-good _ _ _ _ (start b .args .out .now) _ (p .0) (p .1 .0) _ (b .size-of .ensures) _ (k .before .other-script .ensures) _ (k .size-of2 .ensures) _ _ (p .1 .1 .2 .0) (p .1 .1 .2 .1) in
     (within b, ((_, _, _, g), omega (arith, fits k, c .write-fields-arg .given, c .before .before .out2 .given, k .before .before .before .out .given)))
-
-same-length : tie.Need-same-length
-same-length c = search needs
 
 returns : tie.Need-returns
 returns c =
@@ -105,24 +75,24 @@ pub write-message-spec : {M : Type 1} → statement M
 write-message-spec =
     tie.close
     (tie.spec
-    size-of-requires
+    (λ c κs. search needs)
     mul-maps
     add-end
     slice-aggregate-carry
-    carry-requires
-    other-script-requires
-    size-of-requires-2
-    sub-put
-    part-put-start
+    (λ c κs. search needs)
+    (λ c κs. search needs)
+    (λ c κs. search needs)
+    (λ c. search needs)
+    (λ c. search needs)
     part-put-end
     sub-put-2
     part-put-start-2
-    part-put-end-2
-    put-requires
+    (λ c. search needs)
+    (λ c κs. search needs)
     add-behind
     sub-write-fields
     part-write-fields-start
-    part-write-fields-end
+    (λ c. search needs)
     write-fields-requires
-    same-length
+    (λ c. search needs)
     returns)

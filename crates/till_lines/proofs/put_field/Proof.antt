@@ -7,21 +7,9 @@ use borrow.Author.Needs.{needs}
 use Rattle.till_lines.proofs.put_field.Statement.{statement}
 use Rattle.till_lines.proofs.put_field.Tie as tie
 
-slice-aggregate-put-tripled : tie.Need-slice-aggregate-put-tripled
-slice-aggregate-put-tripled c = search needs
-
-slice-aggregate-put-tripled-2 : tie.Need-slice-aggregate-put-tripled-2
-slice-aggregate-put-tripled-2 c = search needs
-
-slice-aggregate-put-tripled-3 : tie.Need-slice-aggregate-put-tripled-3
-slice-aggregate-put-tripled-3 c = search needs
-
 put-tripled-requires : tie.Need-put-tripled-requires
 unfolding fieldLine
 put-tripled-requires c κs = simp (tripled-long, named-long) (omega (arith, simp (tripled-long, named-long) at (c .before .before .before .before .before .pre)))
-
-same-length : tie.Need-same-length
-same-length c = search needs
 
 returns : tie.Need-returns
 unfolding fieldLine
@@ -31,9 +19,9 @@ pub put-field-spec : {M : Type 1} → statement M
 put-field-spec =
     tie.close
     (tie.spec
-    slice-aggregate-put-tripled
-    slice-aggregate-put-tripled-2
-    slice-aggregate-put-tripled-3
+    (λ c. search needs)
+    (λ c. search needs)
+    (λ c. search needs)
     put-tripled-requires
-    same-length
+    (λ c. search needs)
     returns)

@@ -15,32 +15,14 @@ begun-at c = record { room = start c .pre; word = c .before .before .put .ensure
 abbrev back : tie.After-slice-known3 → tie.After-slice-known2
 back c = c .before .before .before .before
 
-slice-aggregate-put : tie.Need-slice-aggregate-put
-slice-aggregate-put c = search needs
-
-put-requires : tie.Need-put-requires
-put-requires c κs = search needs
-
 sub-put : tie.Need-sub-put
 sub-put c = omega (arith, mti-begun-size (begun-at c), mti-room (begun-at c))
 
 part-put-start : tie.Need-part-put-start
 part-put-start c = omega (arith, mti-begun-size (begun-at c), mti-room (begun-at c))
 
-part-put-end : tie.Need-part-put-end
-part-put-end c = search needs
-
-put-requires-2 : tie.Need-put-requires-2
-put-requires-2 c κs = search needs
-
-add-end : tie.Need-add-end
-add-end c = search needs
-
 slice-write-out : tie.Need-slice-write-out
 slice-write-out c = omega (arith, mti-put-size (begun-at (back c)) (c .before .before .put2 .ensures), mti-room (begun-at (back c)))
-
-add-result : tie.Need-add-result
-add-result c = search needs
 
 same-length : tie.Need-same-length
 same-length c = as-long _ _ _ (mti-ended (begun-at (back c)) (c .before .before .put2 .ensures)) (start (back c) .pre)
@@ -52,14 +34,14 @@ pub put-mti-spec : {M : Type 1} → statement M
 put-mti-spec =
     tie.close
     (tie.spec
-    slice-aggregate-put
-    put-requires
+    (λ c. search needs)
+    (λ c κs. search needs)
     sub-put
     part-put-start
-    part-put-end
-    put-requires-2
-    add-end
+    (λ c. search needs)
+    (λ c κs. search needs)
+    (λ c. search needs)
     slice-write-out
-    add-result
+    (λ c. search needs)
     same-length
     returns)

@@ -26,26 +26,14 @@ numbered-at :
 numbered-at c =
     record { worded = worded-at (back c); count = c .before .before .put-numeral .ensures .0; number = c .before .before .put-numeral .ensures .1 }
 
-put-requires : tie.Need-put-requires
-put-requires c κs = search needs
-
 slice-write-out : tie.Need-slice-write-out
 slice-write-out c = omega (arith, worded-size (worded-at c), named-room (worded-at c))
-
-add-start : tie.Need-add-start
-add-start c = search needs
 
 sub-put-numeral : tie.Need-sub-put-numeral
 sub-put-numeral c = omega (arith, spaced-size (worded-at c), named-room (worded-at c))
 
 part-put-numeral-start : tie.Need-part-put-numeral-start
 part-put-numeral-start c = omega (arith, spaced-size (worded-at c), named-room (worded-at c))
-
-part-put-numeral-end : tie.Need-part-put-numeral-end
-part-put-numeral-end c = search needs
-
-put-numeral-requires : tie.Need-put-numeral-requires
-put-numeral-requires c κs = search needs
 
 add-stop : tie.Need-add-stop
 add-stop c = omega (arith, numbered-room (numbered-at c), start (back c) .pre)
@@ -66,13 +54,13 @@ pub put-named-spec : {M : Type 1} → statement M
 put-named-spec =
     tie.close
     (tie.spec
-    put-requires
+    (λ c κs. search needs)
     slice-write-out
-    add-start
+    (λ c. search needs)
     sub-put-numeral
     part-put-numeral-start
-    part-put-numeral-end
-    put-numeral-requires
+    (λ c. search needs)
+    (λ c κs. search needs)
     add-stop
     slice-write-out-2
     add-result

@@ -90,17 +90,11 @@ slice-aggregate-put-mti c = sym (length-take-le 4 (c .before .before .before .be
 put-mti-requires : tie.Need-put-mti-requires Inv-loop μ-loop
 put-mti-requires c κs = mti-fits (opened-at (c .before .before .before .before .before))
 
-slice-aggregate-put-named : tie.Need-slice-aggregate-put-named Inv-loop μ-loop
-slice-aggregate-put-named c = search needs
-
 sub-put-named : tie.Need-sub-put-named Inv-loop μ-loop
 sub-put-named c = omega (arith, begun-size (begun-at c), begun-room (begun-at c), entered c .pre .1 .1 .1)
 
 part-put-named-start : tie.Need-part-put-named-start Inv-loop μ-loop
 part-put-named-start c = omega (arith, begun-size (begun-at c), begun-room (begun-at c), entered c .pre .1 .1 .1)
-
-part-put-named-end : tie.Need-part-put-named-end Inv-loop μ-loop
-part-put-named-end c = search needs
 
 put-named-requires : tie.Need-put-named-requires Inv-loop μ-loop
 put-named-requires c κs = maps-fits (begun-at (c .before))
@@ -111,29 +105,11 @@ add-written c = omega (arith, headed-room (headed-at c))
 loop-holds : tie.Need-loop-holds Inv-loop μ-loop
 loop-holds c = let s = entered (first c) in walked-first (headed-at c) (s .args .notes .now) (s .pre .1 .1 .0)
 
-sub-read-note : tie.Need-sub-read-note Inv-loop μ-loop
-sub-read-note c = search needs
-
-part-read-note-start : tie.Need-part-read-note-start Inv-loop μ-loop
-part-read-note-start c = search needs
-
-part-read-note-end : tie.Need-part-read-note-end Inv-loop μ-loop
-part-read-note-end c = search needs
-
-read-note-requires : tie.Need-read-note-requires Inv-loop μ-loop
-read-note-requires c κs = search needs
-
-enum-known-number : tie.Need-enum-known-number Inv-loop μ-loop
-enum-known-number c = search needs
-
 sub-put-field : tie.Need-sub-put-field Inv-loop μ-loop
 sub-put-field c = omega (arith, field-turn c .loop .inv .written .within)
 
 part-put-field-start : tie.Need-part-put-field-start Inv-loop μ-loop
 part-put-field-start c = omega (arith, field-turn c .loop .inv .written .within)
-
-part-put-field-end : tie.Need-part-put-field-end Inv-loop μ-loop
-part-put-field-end c = search needs
 
 put-field-requires : tie.Need-put-field-requires Inv-loop μ-loop
 put-field-requires c κs = field-room (field-turn (c .before) .loop .inv) (field-at (c .before))
@@ -159,20 +135,11 @@ loop-again c =
     let l = field-turn k in
     walked-field (l .loop .inv) (field-at k) (c .before .before .put-field .ensures .0) (c .before .before .put-field .ensures .1)
 
-enum-told : tie.Need-enum-told Inv-loop μ-loop
-enum-told c = search needs
-
-slice-aggregate-put-named-2 : tie.Need-slice-aggregate-put-named-2 Inv-loop μ-loop
-slice-aggregate-put-named-2 c = search needs
-
 sub-put-named-2 : tie.Need-sub-put-named-2 Inv-loop μ-loop
 sub-put-named-2 c = omega (arith, end-turn c .loop .inv .written .within)
 
 part-put-named-start-2 : tie.Need-part-put-named-start-2 Inv-loop μ-loop
 part-put-named-start-2 c = omega (arith, end-turn c .loop .inv .written .within)
-
-part-put-named-end-2 : tie.Need-part-put-named-end-2 Inv-loop μ-loop
-part-put-named-end-2 c = search needs
 
 put-named-requires-2 : tie.Need-put-named-requires-2 Inv-loop μ-loop
 put-named-requires-2 c κs = end-room (end-turn (c .before) .loop .inv) (end-at (c .before))
@@ -196,9 +163,6 @@ returns c =
     let e = walked-end (l .loop .inv) (end-at k) (c .before .before .put-named2 .ensures .0) (c .before .before .put-named2 .ensures .1) in
     (e .0, e .1 ∙ headed-over (headed-at (l .before)))
 
-enum-told-2 : tie.Need-enum-told-2 Inv-loop μ-loop
-enum-told-2 c = search needs
-
 same-length-2 : tie.Need-same-length-2 Inv-loop μ-loop
 same-length-2 c = absurd (not-malformed c)
 
@@ -219,36 +183,36 @@ put-reading-spec =
     μ-loop
     slice-aggregate-put-mti
     put-mti-requires
-    slice-aggregate-put-named
+    (λ c. search needs)
     sub-put-named
     part-put-named-start
-    part-put-named-end
+    (λ c. search needs)
     put-named-requires
     add-written
     loop-holds
-    sub-read-note
-    part-read-note-start
-    part-read-note-end
-    read-note-requires
-    enum-known-number
+    (λ c. search needs)
+    (λ c. search needs)
+    (λ c. search needs)
+    (λ c κs. search needs)
+    (λ c. search needs)
     sub-put-field
     part-put-field-start
-    part-put-field-end
+    (λ c. search needs)
     put-field-requires
     add-written-2
     add-at
     loop-less
     loop-again
-    enum-told
-    slice-aggregate-put-named-2
+    (λ c. search needs)
+    (λ c. search needs)
     sub-put-named-2
     part-put-named-start-2
-    part-put-named-end-2
+    (λ c. search needs)
     put-named-requires-2
     add-result
     same-length
     returns
-    enum-told-2
+    (λ c. search needs)
     same-length-2
     returns-2
     same-length-3

@@ -7,18 +7,6 @@ use native.Mathlib.Omega.{arith}
 use Rattle.till_lines.proofs.put_refused.Statement.{statement}
 use Rattle.till_lines.proofs.put_refused.Tie as tie
 
-wide-requires : tie.Need-wide-requires
-wide-requires c κs = search needs
-
-slice-aggregate-put-tripled : tie.Need-slice-aggregate-put-tripled
-slice-aggregate-put-tripled c = search needs
-
-slice-aggregate-put-tripled-2 : tie.Need-slice-aggregate-put-tripled-2
-slice-aggregate-put-tripled-2 c = search needs
-
-slice-aggregate-put-tripled-3 : tie.Need-slice-aggregate-put-tripled-3
-slice-aggregate-put-tripled-3 c = search needs
-
 put-tripled-requires : tie.Need-put-tripled-requires
 unfolding refusedLine
 put-tripled-requires c κs =
@@ -29,9 +17,6 @@ put-tripled-requires c κs =
     let p : s .args .refusal .position < 18446744073709551616 = omega (arith, s .good .0) in
     rw (w .0) (omega (arith, refused-most (s .args .refusal) n f p, s .pre))
 
-same-length : tie.Need-same-length
-same-length c = search needs
-
 returns : tie.Need-returns
 unfolding refusedLine
 returns c = rw (← c .before .before .before .before .before .before .before .wide .ensures .0) (c .before .before .put-tripled .ensures)
@@ -40,10 +25,10 @@ pub put-refused-spec : {M : Type 1} → statement M
 put-refused-spec =
     tie.close
     (tie.spec
-    wide-requires
-    slice-aggregate-put-tripled
-    slice-aggregate-put-tripled-2
-    slice-aggregate-put-tripled-3
+    (λ c κs. search needs)
+    (λ c. search needs)
+    (λ c. search needs)
+    (λ c. search needs)
     put-tripled-requires
-    same-length
+    (λ c. search needs)
     returns)

@@ -33,9 +33,6 @@ sub-put-named c = omega (arith, once-size (once-at c), once-room (once-at c))
 part-put-named-start : tie.Need-part-put-named-start
 part-put-named-start c = omega (arith, once-size (once-at c), once-room (once-at c))
 
-part-put-named-end : tie.Need-part-put-named-end
-part-put-named-end c = search needs
-
 put-named-requires-2 : tie.Need-put-named-requires-2
 put-named-requires-2 c κs = second-fits (once-at (c .before))
 
@@ -47,9 +44,6 @@ sub-put-named-2 c = omega (arith, twice-size (twice-at c), twice-room (twice-at 
 
 part-put-named-start-2 : tie.Need-part-put-named-start-2
 part-put-named-start-2 c = omega (arith, twice-size (twice-at c), twice-room (twice-at c), start (back c) .pre)
-
-part-put-named-end-2 : tie.Need-part-put-named-end-2
-part-put-named-end-2 c = search needs
 
 put-named-requires-3 : tie.Need-put-named-requires-3
 put-named-requires-3 c κs = third-fits (twice-at (c .before))
@@ -75,12 +69,12 @@ put-tripled-spec =
     put-named-requires
     sub-put-named
     part-put-named-start
-    part-put-named-end
+    (λ c. search needs)
     put-named-requires-2
     add-second
     sub-put-named-2
     part-put-named-start-2
-    part-put-named-end-2
+    (λ c. search needs)
     put-named-requires-3
     add-result
     same-length

@@ -11,36 +11,12 @@ use Rattle.till_lines.proofs.report.Tie as tie
 returns : tie.Need-returns
 returns c = report-short (dialect house) _ _ (c .if1 .taken)
 
-put-refused-requires : tie.Need-put-refused-requires
-put-refused-requires c κs = search needs
-
-same-length : tie.Need-same-length
-same-length c = search needs
-
 returns-2 : tie.Need-returns-2
 returns-2 c =
     let e = c .before .before .before .before .before in
     let a = e .before .before .before .args in
     let w = c .before .before .put-refused .ensures in
     report-written (dialect house) (a .input .now) (a .text .now) (e .if1 .left) _ _ _ (too-long (dialect house) (a .input .now) (c .before .before .before .before .if2 .taken)) (w .0) (w .1)
-
-slice-aggregate-read : tie.Need-slice-aggregate-read
-slice-aggregate-read c = search needs
-
-read-requires : tie.Need-read-requires
-read-requires c κs = search needs
-
-enum-known-refusal : tie.Need-enum-known-refusal
-enum-known-refusal c = search needs
-
-put-refused-requires-2 : tie.Need-put-refused-requires-2
-put-refused-requires-2 c κs = search needs
-
-enum-known-used : tie.Need-enum-known-used
-enum-known-used c = search needs
-
-slice-aggregate-put-reading : tie.Need-slice-aggregate-put-reading
-slice-aggregate-put-reading c = search needs
 
 put-reading-requires : tie.Need-put-reading-requires
 put-reading-requires c κs =
@@ -52,9 +28,6 @@ put-reading-requires c κs =
     let m = answered (dialect house) (a .input .now) _ g in
     (e .if2 .left, (m, (noted (dialect house) (a .input .now) _ _ _ g (r .1 .0), e .before .if1 .left)))
 
-same-length-2 : tie.Need-same-length-2
-same-length-2 c = search needs
-
 returns-3 : tie.Need-returns-3
 returns-3 c =
     let k = c .before .before .before in
@@ -65,9 +38,6 @@ returns-3 c =
     let m = answered (dialect house) (a .input .now) _ g in
     let w = c .before .before .put-refused2 .ensures in
     report-written (dialect house) (a .input .now) (a .text .now) (e .before .if1 .left) _ _ _ (refused-lines (dialect house) (a .input .now) (e .if2 .left) _ m) (w .0) (w .1)
-
-same-length-3 : tie.Need-same-length-3
-same-length-3 c = search needs
 
 returns-4 : tie.Need-returns-4
 returns-4 c =
@@ -85,17 +55,17 @@ report-spec =
     tie.close
     (tie.spec
     returns
-    put-refused-requires
-    same-length
+    (λ c κs. search needs)
+    (λ c. search needs)
     returns-2
-    slice-aggregate-read
-    read-requires
-    enum-known-refusal
-    put-refused-requires-2
-    enum-known-used
-    slice-aggregate-put-reading
+    (λ c. search needs)
+    (λ c κs. search needs)
+    (λ c. search needs)
+    (λ c κs. search needs)
+    (λ c. search needs)
+    (λ c. search needs)
     put-reading-requires
-    same-length-2
+    (λ c. search needs)
     returns-3
-    same-length-3
+    (λ c. search needs)
     returns-4)

@@ -6,16 +6,10 @@ use borrow.Author.Needs.{needs}
 use Rattle.validation_dates.proofs.check_date.Statement.{statement}
 use Rattle.validation_dates.proofs.check_date.Tie as tie
 
-is-date-requires : tie.Need-is-date-requires
-is-date-requires c κs = search needs
-
 returns : tie.Need-returns
 returns c =
     let r = date-good _ _ (c .before .is-date .ensures) (c .if1 .taken) in
     (r, ap toldChecked r)
-
-answer-check-requires : tie.Need-answer-check-requires
-answer-check-requires c κs = search needs
 
 returns-2 : tie.Need-returns-2
 returns-2 c =
@@ -23,4 +17,4 @@ returns-2 c =
     (r, ap toldChecked r)
 
 pub check-date-spec : {M : Type 1} → statement M
-check-date-spec = tie.close (tie.spec is-date-requires returns answer-check-requires returns-2)
+check-date-spec = tie.close (tie.spec (λ c κs. search needs) returns (λ c κs. search needs) returns-2)

@@ -6,16 +6,10 @@ use borrow.Author.Needs.{needs}
 use Rattle.validation_dates.proofs.check_time.Statement.{statement}
 use Rattle.validation_dates.proofs.check_time.Tie as tie
 
-is-time-requires : tie.Need-is-time-requires
-is-time-requires c κs = search needs
-
 returns : tie.Need-returns
 returns c =
     let r = time-good _ _ (c .before .is-time .ensures) (c .if1 .taken) in
     (r, ap toldChecked r)
-
-answer-check-requires : tie.Need-answer-check-requires
-answer-check-requires c κs = search needs
 
 returns-2 : tie.Need-returns-2
 returns-2 c =
@@ -23,4 +17,4 @@ returns-2 c =
     (r, ap toldChecked r)
 
 pub check-time-spec : {M : Type 1} → statement M
-check-time-spec = tie.close (tie.spec is-time-requires returns answer-check-requires returns-2)
+check-time-spec = tie.close (tie.spec (λ c κs. search needs) returns (λ c κs. search needs) returns-2)

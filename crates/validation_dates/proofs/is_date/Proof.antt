@@ -5,9 +5,6 @@ use borrow.Author.Needs.{needs}
 use Rattle.validation_dates.proofs.is_date.Statement.{statement}
 use Rattle.validation_dates.proofs.is_date.Tie as tie
 
-are-digits-requires : tie.Need-are-digits-requires
-are-digits-requires c κs = search needs
-
 returns : tie.Need-returns
 returns c = search (date-no-digits, needs)
 
@@ -27,7 +24,7 @@ pub is-date-spec : {M : Type 1} → statement M
 is-date-spec =
     tie.close
     (tie.spec
-    are-digits-requires
+    (λ c κs. search needs)
     returns
     is-pair-between-requires
     returns-2

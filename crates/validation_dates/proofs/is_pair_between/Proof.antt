@@ -4,21 +4,6 @@ use borrow.Author.Needs.{needs}
 use Rattle.validation_dates.proofs.is_pair_between.Statement.{statement}
 use Rattle.validation_dates.proofs.is_pair_between.Tie as tie
 
-add-end : tie.Need-add-end
-add-end c = search needs
-
-sub-decimal-of : tie.Need-sub-decimal-of
-sub-decimal-of c = search needs
-
-part-decimal-of-start : tie.Need-part-decimal-of-start
-part-decimal-of-start c = search needs
-
-part-decimal-of-end : tie.Need-part-decimal-of-end
-part-decimal-of-end c = search needs
-
-decimal-of-requires : tie.Need-decimal-of-requires
-decimal-of-requires c κs = search needs
-
 returns : tie.Need-returns
 returns c = search (pair-below, needs)
 
@@ -29,10 +14,10 @@ pub is-pair-between-spec : {M : Type 1} → statement M
 is-pair-between-spec =
     tie.close
     (tie.spec
-    add-end
-    sub-decimal-of
-    part-decimal-of-start
-    part-decimal-of-end
-    decimal-of-requires
+    (λ c. search needs)
+    (λ c. search needs)
+    (λ c. search needs)
+    (λ c. search needs)
+    (λ c κs. search needs)
     returns
     returns-2)

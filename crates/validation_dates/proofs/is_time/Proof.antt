@@ -5,9 +5,6 @@ use borrow.Author.Needs.{needs}
 use Rattle.validation_dates.proofs.is_time.Statement.{statement}
 use Rattle.validation_dates.proofs.is_time.Tie as tie
 
-are-digits-requires : tie.Need-are-digits-requires
-are-digits-requires c κs = search needs
-
 returns : tie.Need-returns
 returns c = search (time-no-digits, needs)
 
@@ -33,7 +30,7 @@ pub is-time-spec : {M : Type 1} → statement M
 is-time-spec =
     tie.close
     (tie.spec
-    are-digits-requires
+    (λ c κs. search needs)
     returns
     is-pair-between-requires
     returns-2

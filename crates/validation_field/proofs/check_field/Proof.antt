@@ -6,16 +6,10 @@ use borrow.Author.Needs.{needs}
 use Rattle.validation_field.proofs.check_field.Statement.{statement}
 use Rattle.validation_field.proofs.check_field.Tie as tie
 
-field-fault-requires : tie.Need-field-fault-requires
-field-fault-requires c κs = search needs
-
-answer-check-requires : tie.Need-answer-check-requires
-answer-check-requires c κs = search needs
-
 returns : tie.Need-returns
 returns c =
     let r = checked-found _ _ _ _ (c .answer-check .ensures) (c .before .field-fault .ensures) in
     (r, ap toldChecked r)
 
 pub check-field-spec : {M : Type 1} → statement M
-check-field-spec = tie.close (tie.spec field-fault-requires answer-check-requires returns)
+check-field-spec = tie.close (tie.spec (λ c κs. search needs) (λ c κs. search needs) returns)

@@ -4,20 +4,11 @@ use borrow.Author.Needs.{needs}
 use Rattle.validation_field.proofs.value_fault.Statement.{statement}
 use Rattle.validation_field.proofs.value_fault.Tie as tie
 
-pan-fault-requires : tie.Need-pan-fault-requires
-pan-fault-requires c κs = search needs
-
 returns : tie.Need-returns
 returns c = search (value-pan, needs)
 
-is-amount-field-requires : tie.Need-is-amount-field-requires
-is-amount-field-requires c κs = search needs
-
 returns-2 : tie.Need-returns-2
 returns-2 c = search (value-free, needs)
-
-all-between-requires : tie.Need-all-between-requires
-all-between-requires c κs = search needs
 
 returns-3 : tie.Need-returns-3
 returns-3 c = search (value-zero, needs)
@@ -29,10 +20,10 @@ pub value-fault-spec : {M : Type 1} → statement M
 value-fault-spec =
     tie.close
     (tie.spec
-    pan-fault-requires
+    (λ c κs. search needs)
     returns
-    is-amount-field-requires
+    (λ c κs. search needs)
     returns-2
-    all-between-requires
+    (λ c κs. search needs)
     returns-3
     returns-4)

@@ -6,16 +6,10 @@ use borrow.Author.Needs.{needs}
 use Rattle.validation_pan.proofs.check_pan.Statement.{statement}
 use Rattle.validation_pan.proofs.check_pan.Tie as tie
 
-pan-fault-requires : tie.Need-pan-fault-requires
-pan-fault-requires c κs = search needs
-
-answer-check-requires : tie.Need-answer-check-requires
-answer-check-requires c κs = search needs
-
 returns : tie.Need-returns
 returns c =
     let r = checked-found _ _ _ _ (c .answer-check .ensures) (c .before .pan-fault .ensures) in
     (r, ap toldChecked r)
 
 pub check-pan-spec : {M : Type 1} → statement M
-check-pan-spec = tie.close (tie.spec pan-fault-requires answer-check-requires returns)
+check-pan-spec = tie.close (tie.spec (λ c κs. search needs) (λ c κs. search needs) returns)

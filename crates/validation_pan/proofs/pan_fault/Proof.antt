@@ -4,9 +4,6 @@ use borrow.Author.Needs.{needs}
 use Rattle.validation_pan.proofs.pan_fault.Statement.{statement}
 use Rattle.validation_pan.proofs.pan_fault.Tie as tie
 
-is-pan-requires : tie.Need-is-pan-requires
-is-pan-requires c κs = search needs
-
 returns : tie.Need-returns
 returns c = search (pan-good, needs)
 
@@ -14,4 +11,4 @@ returns-2 : tie.Need-returns-2
 returns-2 c = search (pan-bad, needs)
 
 pub pan-fault-spec : {M : Type 1} → statement M
-pan-fault-spec = tie.close (tie.spec is-pan-requires returns returns-2)
+pan-fault-spec = tie.close (tie.spec (λ c κs. search needs) returns returns-2)

@@ -4,27 +4,15 @@ use borrow.Author.Needs.{needs}
 use Rattle.validation_pan.proofs.worth_of.Statement.{statement}
 use Rattle.validation_pan.proofs.worth_of.Tie as tie
 
-wide-requires : tie.Need-wide-requires
-wide-requires c κs = search needs
-
-sub-d : tie.Need-sub-d
-sub-d c = search needs
-
 returns : tie.Need-returns
 returns c = (search (worth-single, needs), search needs)
 
-mul-twice : tie.Need-mul-twice
-mul-twice c = search needs
-
 returns-2 : tie.Need-returns-2
 returns-2 c = (search (worth-twice, needs), search needs)
-
-sub-result : tie.Need-sub-result
-sub-result c = search needs
 
 returns-3 : tie.Need-returns-3
 returns-3 c = (search (worth-less, needs), search needs)
 
 pub worth-of-spec : {M : Type 1} → statement M
 worth-of-spec =
-    tie.close (tie.spec wide-requires sub-d returns mul-twice returns-2 sub-result returns-3)
+    tie.close (tie.spec (λ c κs. search needs) (λ c. search needs) returns (λ c. search needs) returns-2 (λ c. search needs) returns-3)

@@ -11,23 +11,8 @@ use Rattle.message_walk.proofs.walk.Reads as walk-reads
 use Rattle.validation_required.proofs.answer_missing.Reads as answer-missing-reads
 use Rattle.validation_required.proofs.first_missing.Reads as first-missing-reads
 
-walk-requires : tie.Need-walk-requires
-walk-requires c κs = search needs
-
-enum-known-end : tie.Need-enum-known-end
-enum-known-end c = search needs
-
-enum-told : tie.Need-enum-told
-enum-told c = search needs
-
-mti-in-requires : tie.Need-mti-in-requires
-mti-in-requires c κs = search needs
-
 first-missing-requires : tie.Need-first-missing-requires
 first-missing-requires c κs = search (required-mti, needs)
-
-answer-missing-requires : tie.Need-answer-missing-requires
-answer-missing-requires c κs = search needs
 
 returns : tie.Need-returns
 returns c =
@@ -45,11 +30,11 @@ pub check-required-spec : {M : Type 1} → statement M
 check-required-spec =
     tie.close
     (tie.spec
-    walk-requires
-    enum-known-end
-    enum-told
-    mti-in-requires
+    (λ c κs. search needs)
+    (λ c. search needs)
+    (λ c. search needs)
+    (λ c κs. search needs)
     first-missing-requires
-    answer-missing-requires
+    (λ c κs. search needs)
     returns
     returns-2)

@@ -4,11 +4,8 @@ use borrow.Author.Needs.{needs}
 use Rattle.validation_required.proofs.is_response.Statement.{statement}
 use Rattle.validation_required.proofs.is_response.Tie as tie
 
-shared-slice-read-result : tie.Need-shared-slice-read-result
-shared-slice-read-result c = search needs
-
 returns : tie.Need-returns
 returns c = search (response-third, needs)
 
 pub is-response-spec : {M : Type 1} → statement M
-is-response-spec = tie.close (tie.spec shared-slice-read-result returns)
+is-response-spec = tie.close (tie.spec (λ c. search needs) returns)

@@ -4,14 +4,8 @@ use borrow.Author.Needs.{needs}
 use Rattle.validation_required.proofs.missing_of_response.Statement.{statement}
 use Rattle.validation_required.proofs.missing_of_response.Tie as tie
 
-is-response-requires : tie.Need-is-response-requires
-is-response-requires c κs = search needs
-
 returns : tie.Need-returns
 returns c = search (no-response, needs)
-
-has-requires : tie.Need-has-requires
-has-requires c κs = search needs
 
 returns-2 : tie.Need-returns-2
 returns-2 c = search (no-39, needs)
@@ -21,4 +15,4 @@ returns-3 c = search (all-there, needs)
 
 pub missing-of-response-spec : {M : Type 1} → statement M
 missing-of-response-spec =
-    tie.close (tie.spec is-response-requires returns has-requires returns-2 returns-3)
+    tie.close (tie.spec (λ c κs. search needs) returns (λ c κs. search needs) returns-2 returns-3)

@@ -8,9 +8,6 @@ use native.Mathlib.Omega.{arith}
 use Rattle.bitmap.proofs.Bitmaps.of.Statement.{statement}
 use Rattle.bitmap.proofs.Bitmaps.of.Tie as tie
 
-map-bytes-requires : tie.Need-map-bytes-requires
-map-bytes-requires c κs = search needs
-
 returns : tie.Need-returns
 returns c =
     let a = c .before .before .before .args in
@@ -18,9 +15,6 @@ returns c =
     let made = c .map-bytes .ensures in
     let bytes = sym (ap (all (between 0 255)) (made .0)) ∙ made .1 in
     (sym e, rw e (made .0 ∙ maps-made 3 (a .fields .bits) (omega arith) bytes))
-
-map-bytes-requires-2 : tie.Need-map-bytes-requires-2
-map-bytes-requires-2 c κs = search needs
 
 returns-2 : tie.Need-returns-2
 returns-2 c =
@@ -31,4 +25,4 @@ returns-2 c =
     (sym e, rw e (made .0 ∙ maps-made (a .count) (a .fields .bits) (omega arith) bytes))
 
 pub of-spec : {M : Type 1} → statement M
-of-spec = tie.close (tie.spec map-bytes-requires returns map-bytes-requires-2 returns-2)
+of-spec = tie.close (tie.spec (λ c κs. search needs) returns (λ c κs. search needs) returns-2)

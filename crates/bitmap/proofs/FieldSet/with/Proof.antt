@@ -7,9 +7,6 @@ use native.Mathlib.Omega.{arith}
 use Rattle.bitmap.proofs.FieldSet.with.Statement.{statement}
 use Rattle.bitmap.proofs.FieldSet.with.Tie as tie
 
-is-field-requires : tie.Need-is-field-requires
-is-field-requires c κs = search needs
-
 returns : tie.Need-returns
 returns c = search (field-left, needs)
 
@@ -18,9 +15,6 @@ sub-k c = omega (arith, field-low _ (tested-true _ _ (c .before .is-field .ensur
 
 array-read-set-bit : tie.Need-array-read-set-bit
 array-read-set-bit c = omega (arith, field-high _ (tested-true _ _ (c .before .before .is-field .ensures) (c .before .if1 .left)))
-
-set-bit-requires : tie.Need-set-bit-requires
-set-bit-requires c κs = search needs
 
 array-write-bits : tie.Need-array-write-bits
 array-write-bits c = omega (arith, field-high _ (tested-true _ _ (c .before .before .before .is-field .ensures) (c .before .before .if1 .left)))
@@ -32,10 +26,10 @@ pub with-spec : {M : Type 1} → statement M
 with-spec =
     tie.close
     (tie.spec
-    is-field-requires
+    (λ c κs. search needs)
     returns
     sub-k
     array-read-set-bit
-    set-bit-requires
+    (λ c κs. search needs)
     array-write-bits
     returns-2)
