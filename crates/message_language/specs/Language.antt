@@ -13,7 +13,7 @@
 -- would be in both alike, so each is held to 01 by something else as well. Cases are 01's (`WorkedMessages` in Worked.antt where accepted,
 -- `RefusedMessages` in worked_table/specs/Refused.antt where refused).
 --
---   the table   == 01's rows (field_table/specs/House.antt): one for each field, none for another number (proofs/Table.antt)
+--   the table   == 01's rows, as 02 amends them (field_table/specs/House.antt): one for each field, none for another number (proofs/Table.antt)
 --   isBinary    == a line for each class; 0xFF in a field of class b is accepted (`binary-ends` of `OtherMessages`), 0x80 in one of class an
 --                  refused (`RefusedText` in worked_table)
 --   isAscii     == a range, of which 0x00 and 0x7F are shown to be in it (`text-ends` of `OtherMessages`) and 0x80 not (`RefusedText`)
@@ -22,7 +22,7 @@
 --   decimalOf   == it reads back each number that `decimal` spells (`number-digits` in octets/proofs/Numbers.antt); `19` in case 4, `105` in
 --                  `two-fields` of `OtherMessages`
 --   bitOf       == the bytes that are made of its bits, the first the highest, are the bytes themselves (`bytes-of-bits` in
---                  bitmap/proofs/Bits.antt); bits 1, 2, 3, 65 and 70 in cases 2, 3, 6, 7 and 8, and 39, 48, 49 and 192 in `OtherMessages`
+--                  bitmap/proofs/Bits.antt); bits 1, 2, 3, 65 and 70 in cases 2, 3, 6, 7 and 8, and 39, 48, 49, 55 and 192 in `OtherMessages`
 --   fieldsOf    == exactly the fields whose bits are set, rising, each once (`ListsPresent` in bitmap/specs/Present.antt)
 --
 -- `countOf` is the language's alone: the reader finds one bitmap after the other (`bitmapsRead` in bitmap_read/specs/Found.antt). The types

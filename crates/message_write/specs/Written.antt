@@ -15,7 +15,8 @@
 --
 --   bodyOf t v es               == the fields of the entries es with their contents padded where they are short, one after the other
 --   messageOf t v mti m es      == the message of them
---   messageIn t v n             == the message of the fields that the notes n list, with their head's MTI and count
+--   messageIn t v n             == the message, contents padded where they are short, of the fields that the notes n list in the desk's form, with their
+--                                  head's MTI and count
 --   entriesBy t v r n, answerBy t v r n out, outputBy t v r n out, paddedBy t v r n out
 --                               == what a writer by the rule r passes, answers, leaves in its output and pads, by the table t
 --   sizeIn t es                 == how many bytes they take, reckoned from their lengths; a length that no note can hold counts as 0

@@ -36,7 +36,7 @@ use Rattle.packed_field.specs.declared.Item.{Item}
 use Rattle.packed_field.specs.declared.Item.the-variants.{Found, Refused}
 use Rattle.packed_field.specs.Scripts.{other, sizeOf, isSpelt, digitsOf}
 
--- OPEN-POINTS P3.1: x+n, ns and z are not n
+-- docs/DECISIONS.md P3: x+n, ns and z are not n
 abbrev pub isNumeric : Class → Bool
 isNumeric N = true
 isNumeric A = false

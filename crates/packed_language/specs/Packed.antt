@@ -16,8 +16,9 @@
 -- `packed d` is the BCD of the digits d, a leading zero half-byte where their count is odd (encoding_bcd/specs/Bcd.antt); `decimal w n` is n in w
 -- digits, so that a length of w digits takes half of w bytes, rounded up, and counts what the content has in the plain form: digits, or bytes.
 --
--- Shared with the link are `packed` and `unpacked`'s laws, `decimal`, `isNumeric`, the table, `countOf` and `fieldsOf`. What holds them to 02 and 01:
--- the worked pairs (Worked.antt) for `packed`, `decimal` and `isNumeric`; the list in message_language/specs/Language.antt for the others.
+-- Shared with the link are `packed`, `isNumeric`, the table, `fieldsOf`, and by `Item` also `isDigit`, `isAscii`, `isBinary` and `decimalOf`. What holds them to
+-- 02 and 01: the worked pairs (Worked.antt) for `packed` and `isNumeric`; the list in message_language/specs/Language.antt for the others. `decimal` and
+-- `countOf` are the language's alone.
 -- Assumes nothing: these are definitions.
 use Prim.Native.Nat.{ℕ, _*_, _≤_}
 use mathlib.Core.Path.{_≡_}

@@ -95,7 +95,7 @@ linkJudged S t m s = elim (linkHead S m s) [ HeadRefused r ↦ JudgedBad r | Cou
 unfoldable pub linkCarried : Script → Table → ℕ → List ℕ → List ℕ
 linkCarried S t m s = elim (linkHead S m s) [ HeadRefused r ↦ [] | Count k ↦ bodyCarried S t s k ]
 
--- 02: "14 comes last"; OPEN-POINTS P3.5: without a field, and at 0
+-- 02: "14 comes last"; docs/DECISIONS.md P3: without a field, and at 0
 unfoldable pub linkAnswer : Script → Table → ℕ → List ℕ → List ℕ → Translated
 linkAnswer S t m s out =
     elim (linkJudged S t m s) [

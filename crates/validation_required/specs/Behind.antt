@@ -1,5 +1,5 @@
--- Bytes behind the end note: the required check looks at none. 01: "bytes after it are ignored". Lookup and the writers ignore them too
--- (`IgnoresBehind` in round_trip/specs/RoundTrip.antt).
+-- Bytes behind the notes of a message, as the reader writes them, change nothing of the required check's answer. 01: "bytes after it are ignored". Lookup and
+-- the writers ignore them too (`IgnoresBehind` in round_trip/specs/RoundTrip.antt).
 --
 -- `Begins (d .table) (d .most) s u r`: the input s begins with a message of the language that is u bytes long and has the reading r.
 -- `notesOf (d .form) r u` are then its notes.
