@@ -135,9 +135,10 @@ struct obol_found obol_look_up(const uint8_t *values, size_t values_length, cons
 /*
  * Writes the plain message at the front of the input in packed form to the front of out, for a bank that talks packed: MTI in two BCD
  * bytes, bitmaps as they are, LL in one BCD byte and LLL in two, contents of class n in BCD with a leading zero half-byte where their
- * digits are odd, all others as they are. Lengths count digits in both forms. Bytes after the message are ignored.
+ * digits are odd, all others as they are. In both forms a length counts the digits of a content of class n, and the bytes of any other.
+ * Bytes after the message are ignored.
  * Refuses with 2, 3, 4, then field by field 5, 6, 7, 5, and 21 (class n) or 8, then 14. The position of 3 is the first byte that is no
- * digit, of 4 where the bitmap starts, of the others the field's first byte; 14 has field 0 and position 0.
+ * digit, of 4 where the bitmap starts, of 5 to 8 and 21 the field's first byte; 2 and 14 have field 0 and position 0.
  */
 struct obol_translated obol_pack(const uint8_t *plain, size_t plain_length, uint8_t *out, size_t out_length);
 

@@ -12,8 +12,9 @@ pub struct Translated {
 }
 
 /// Writes the plain message at the front of the input in packed form: MTI in two BCD bytes, bitmaps as they are, LL in one BCD byte and
-/// LLL in two, contents of class n in BCD with a leading zero half-byte where their digits are odd, all others as they are. Lengths count
-/// digits in both forms. As much room as the message takes is enough, since no packed form is longer.
+/// LLL in two, contents of class n in BCD with a leading zero half-byte where their digits are odd, all others as they are. In both
+/// forms a length counts the digits of a content of class n, and the bytes of any other. As much room as the message takes is enough, since
+/// no packed form is longer.
 ///
 /// It refuses as [`read`](crate::read) does, but for a content of class n that is not digits (21, and not 8), and at last an output that is
 /// too short (14). A refusal leaves the output as it was, and nothing behind what is written is touched.
