@@ -72,7 +72,8 @@ fn is_part(b: u8, script: Script) -> bool
     }
 }
 
-// Writes the digits of src in the other script to the front of out; leaves it where src is no such digits, or they do not fit.
+// Writes the digits of src in the other script to the front of out; leaves it where the BCD conversion refuses src, or they do not fit. Of
+// plain digits the count is not asked.
 pub fn carry(src: &[u8], script: Script, digits: usize, out: &mut [u8])
     ensures { λ _. ⌜ now (out .exit) ≡ carriedInto script digits (now (src .entry)) (now (out .entry)) ⌝ }
 {
@@ -96,7 +97,8 @@ fn is_spelt(src: &[u8], script: Script, digits: usize) -> bool
     }
 }
 
-// Reads field number at the front of rest by the table lent, its content judged: 5, 6 or 22, 7, 5, then 21, 22 or 8. The caller adds field and position.
+// Reads field number at the front of rest by the table lent, its content judged: 5, 6 or 22, 7, 5, then 21, 22 or 8. The caller adds field
+// and position.
 pub fn judge_item(rest: &[u8], number: usize, script: Script, table: &[u16]) -> Item
     ensures { λ r. ⌜ r ≡ judgeItem script (decoded (now (table .entry))) number (now (rest .entry)) ⌝ }
 {

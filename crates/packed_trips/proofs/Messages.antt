@@ -28,9 +28,13 @@ use Rattle.packed_trips.proofs.Fields.{contentsRead, Taken, taken, Give
 never : (o : Judged) (r : Refusal) (u w : ℕ) → o ≡ JudgedBad r → o ≡ Good u w → ⊥
 never o r u w p q = let z : _≡_ {A = ℕ} 0 1 = cc in omega arith
 
-by-head : {P : Type 0} (o : BitmapsRead) → ((r : Refusal) → o ≡ HeadRefused r → P) → ((k : ℕ) → o ≡ Count k → P) → P
+pub by-head : {P : Type 0} (o : BitmapsRead) → ((r : Refusal) → o ≡ HeadRefused r → P) → ((k : ℕ) → o ≡ Count k → P) → P
 by-head (HeadRefused r) x y = x r refl
 by-head (Count k) x y = y k refl
+
+pub by-judged : {P : Type 0} (o : Judged) → ((r : Refusal) → o ≡ JudgedBad r → P) → ((u w : ℕ) → o ≡ Good u w → P) → P
+by-judged (JudgedBad r) x y = x r refl
+by-judged (Good u w) x y = y u w refl
 
 -- what an input with k bitmaps says
 unfoldable pub partsRead : Script → Table → List ℕ → ℕ → Parts

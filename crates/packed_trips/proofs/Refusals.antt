@@ -36,14 +36,14 @@ use Rattle.packed_field.specs.declared.Item.the-variants.{Found, Refused as Ite
 use Rattle.packed_field.specs.Scripts.{other, sizeOf, isSpelt, isPart, digitsOf}
 use Rattle.packed_field.specs.Items.{isNumeric, contentSize, isContent, lengthFault, contentFault, placeSized, placeBy, placeItem, judgeItem}
 use Rattle.packed_field.proofs.Found.{good-judged}
-use Rattle.packed_link.specs.declared.Judged.{Judged}
-use Rattle.packed_link.specs.declared.Judged.the-variants.{Good, Refused as JudgedBad}
+use Rattle.packed_link.specs.declared.Judged.the-variants.{Refused as JudgedBad}
 use Rattle.packed_link.specs.declared.Translated.{Translated}
 use Rattle.packed_link.specs.declared.Translated.the-variants.{Done, Refused}
 use Rattle.packed_link.specs.Link.{mtiFault, linkHead, fieldsJudged, bodyJudged, linkJudged, linkAnswer}
 use Rattle.packed_link.proofs.Fields.{fields-refused, fields-good, by-item}
 use Rattle.packed_trips.specs.Refusals.{takesOrEight, RefusesAsReader, BinaryNeverText, HouseRefuses, WorkedRefusals}
 use Rattle.packed_trips.proofs.Items.{digit-ascii}
+use Rattle.packed_trips.proofs.Messages.{by-head, by-judged}
 
 -- in the plain script a content takes a byte for each of its count
 size-plain : (c : Class) (n : ℕ) → contentSize Plain c n ≡ n
@@ -289,14 +289,6 @@ fields-never S t f y at w (g ∷ fs) s p e =
     let k : g ≡ f = ap (λ (r : Refusal). r .field) i in
     item-never S t g s (rw k y) (h ∙ ap (λ (r : Refusal). ItemRefused (r .number)) i))
     (λ a n k j h. fields-never S t f y (at + (a + k)) (w + j) fs (drop (a + k) s) p (sym (fields-good S t g fs s a n k j h at w) ∙ e))
-
-by-head : {P : Type 0} (o : BitmapsRead) → ((r : Refusal) → o ≡ HeadRefused r → P) → ((k : ℕ) → o ≡ Count k → P) → P
-by-head (HeadRefused r) x y = x r refl
-by-head (Count k) x y = y k refl
-
-by-judged : {P : Type 0} (o : Judged) → ((r : Refusal) → o ≡ JudgedBad r → P) → ((u w : ℕ) → o ≡ Good u w → P) → P
-by-judged (JudgedBad r) x y = x r refl
-by-judged (Good u w) x y = y u w refl
 
 -- a head's refusal has another number
 head-number : (o : BitmapsRead) (x g q f p : ℕ) → o ≡ HeadRefused (refusal x g q) → o ≡ HeadRefused (refusal textNotAscii f p) → x ≡ textNotAscii

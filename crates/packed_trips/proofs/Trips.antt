@@ -20,8 +20,7 @@ use Rattle.message_contents.specs.Contents.{contentsIn}
 use Rattle.packed_field.specs.declared.Script.{Script}
 use Rattle.packed_field.specs.declared.Script.the-variants.{Plain, Packed}
 use Rattle.packed_field.specs.Scripts.{other}
-use Rattle.packed_link.specs.declared.Judged.{Judged}
-use Rattle.packed_link.specs.declared.Judged.the-variants.{Good, Refused as JudgedBad}
+use Rattle.packed_link.specs.declared.Judged.the-variants.{Good}
 use Rattle.packed_link.specs.declared.Translated.{Translated}
 use Rattle.packed_link.specs.declared.Translated.the-variants.{Done, Refused}
 use Rattle.packed_link.specs.Link.{linkJudged, linkCarried, linkAnswer, linkOutput}
@@ -29,15 +28,11 @@ use Rattle.packed_language.specs.Packed.{AllDigits, Parts, IsMessage, plainByte
 use Rattle.packed_language.proofs.Plain.{plain-message, plain-contents, all-digits, saying, saying-is, saying-bytes, saying-reading}
 use Rattle.packed_trips.specs.Trips.{says, formOf, Links, Packs, Returns, Leaves, HouseLinks}
 use Rattle.packed_trips.proofs.Forms.{bytesIn, plain-is, packed-is, shorter-form}
-use Rattle.packed_trips.proofs.Messages.{sound, judged-good, carried-is, one-message}
+use Rattle.packed_trips.proofs.Messages.{by-judged, sound, judged-good, carried-is, one-message}
 
 -- An answer is what was judged, and room.
 never : (o : Translated) (r : Refusal) (u w : ℕ) → o ≡ Refused r → o ≡ Done u w → ⊥
 never o r u w p q = let z : _≡_ {A = ℕ} 0 1 = cc in omega arith
-
-by-judged : {P : Type 0} (o : Judged) → ((r : Refusal) → o ≡ JudgedBad r → P) → ((u w : ℕ) → o ≡ Good u w → P) → P
-by-judged (JudgedBad r) x y = x r refl
-by-judged (Good u w) x y = y u w refl
 
 module _ (S : Script) (t : Table) (m : ℕ) (s out : List ℕ) where
   answered : (u w : ℕ) → linkJudged S t m s ≡ Good u w → w ≤ length out → linkAnswer S t m s out ≡ Done u w
