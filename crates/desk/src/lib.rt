@@ -2,8 +2,8 @@
 // under plain names, their answers told in the terms of desk_terms.
 ghost use Rattle.std.specs.Prelude.{◌≡◌, map};
 ghost use Rattle.refusal.specs.Refusals.{converted, converted_into, told, checked, told_checked};
-ghost use Rattle.encoding_bcd.specs.Bcd.{packed, unpacked, encode_fault as bcdEncodeFault, decode_fault as bcdDecodeFault};
-ghost use Rattle.encoding_ebcdic.specs.Ebcdic.{ascii_of, ebcdic_of, encode_fault as ebcdicEncodeFault, decode_fault as ebcdicDecodeFault};
+ghost use Rattle.encoding_bcd.specs.Bcd.{packed, unpacked, encode_fault as bcd_encode_fault, decode_fault as bcd_decode_fault};
+ghost use Rattle.encoding_ebcdic.specs.Ebcdic.{ascii_of, ebcdic_of, encode_fault as ebcdic_encode_fault, decode_fault as ebcdic_decode_fault};
 ghost use Rattle.encoding_length.specs.Lengths.{told_length};
 ghost use Rattle.field_table.specs.House.{house};
 ghost use Rattle.message_notes.specs.Dialect.{dialect};
@@ -107,32 +107,32 @@ pub extern "C" fn obol_check_time(content: &[u8]) -> Judgement
 
 #[unsafe(no_mangle)]
 pub extern "C" fn obol_bcd_encode(source: &[u8], out: &mut [u8]) -> Written
-    ensures answers { result ≡ written (told (converted (bcdEncodeFault source.now) (packed source.now) out.old)) }
-    ensures writes { out.new ≡ converted_into (bcdEncodeFault source.now) (packed source.now) out.old }
+    ensures answers { result ≡ written (told (converted (bcd_encode_fault source.now) (packed source.now) out.old)) }
+    ensures writes { out.new ≡ converted_into (bcd_encode_fault source.now) (packed source.now) out.old }
 {
     desk_terms::tell_written(encoding_bcd::encode(source, out))
 }
 
 #[unsafe(no_mangle)]
 pub extern "C" fn obol_bcd_decode(source: &[u8], digits: usize, out: &mut [u8]) -> Written
-    ensures answers { result ≡ written (told (converted (bcdDecodeFault digits source.now) (unpacked digits source.now) out.old)) }
-    ensures writes { out.new ≡ converted_into (bcdDecodeFault digits source.now) (unpacked digits source.now) out.old }
+    ensures answers { result ≡ written (told (converted (bcd_decode_fault digits source.now) (unpacked digits source.now) out.old)) }
+    ensures writes { out.new ≡ converted_into (bcd_decode_fault digits source.now) (unpacked digits source.now) out.old }
 {
     desk_terms::tell_written(encoding_bcd::decode(source, digits, out))
 }
 
 #[unsafe(no_mangle)]
 pub extern "C" fn obol_ebcdic_encode(source: &[u8], out: &mut [u8]) -> Written
-    ensures answers { result ≡ written (told (converted (ebcdicEncodeFault source.now) (map ebcdic_of source.now) out.old)) }
-    ensures writes { out.new ≡ converted_into (ebcdicEncodeFault source.now) (map ebcdic_of source.now) out.old }
+    ensures answers { result ≡ written (told (converted (ebcdic_encode_fault source.now) (map ebcdic_of source.now) out.old)) }
+    ensures writes { out.new ≡ converted_into (ebcdic_encode_fault source.now) (map ebcdic_of source.now) out.old }
 {
     desk_terms::tell_written(encoding_ebcdic::encode(source, out))
 }
 
 #[unsafe(no_mangle)]
 pub extern "C" fn obol_ebcdic_decode(source: &[u8], out: &mut [u8]) -> Written
-    ensures answers { result ≡ written (told (converted (ebcdicDecodeFault source.now) (map ascii_of source.now) out.old)) }
-    ensures writes { out.new ≡ converted_into (ebcdicDecodeFault source.now) (map ascii_of source.now) out.old }
+    ensures answers { result ≡ written (told (converted (ebcdic_decode_fault source.now) (map ascii_of source.now) out.old)) }
+    ensures writes { out.new ≡ converted_into (ebcdic_decode_fault source.now) (map ascii_of source.now) out.old }
 {
     desk_terms::tell_written(encoding_ebcdic::decode(source, out))
 }

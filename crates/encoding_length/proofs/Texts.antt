@@ -14,9 +14,9 @@ use Rattle.octets.proofs.Numbers.{digits_length, digits_between}
 use Rattle.refusal.specs.Numbers.{no_ascii_meaning}
 use Rattle.refusal.specs.Refusals.{converted, converted_into}
 use Rattle.refusal.specs.declared.Output.{Output}
-use Rattle.encoding_bcd.specs.Bcd.{encode_fault as bcdEncodeFault}
+use Rattle.encoding_bcd.specs.Bcd.{encode_fault as bcd_encode_fault}
 use Rattle.encoding_bcd.proofs.Unpacking.{unpacked_length}
-use Rattle.encoding_ebcdic.specs.Ebcdic.{ascii_of, encode_fault as ebcdicEncodeFault}
+use Rattle.encoding_ebcdic.specs.Ebcdic.{ascii_of, encode_fault as ebcdic_encode_fault}
 use Rattle.encoding_length.specs.Lengths.{size_of, spelt, text_of, ascii_fault, encode_fault}
 use Rattle.encoding_length.specs.declared.Encoding.{Encoding}
 use Rattle.encoding_length.specs.declared.Encoding.TheVariants.{Ascii, Bcd, Ebcdic}
@@ -66,12 +66,12 @@ pub ascii_clean : (t : List ℕ) → all is_digit t ≡ true → ascii_fault t �
 unfolding ascii_fault
 ascii_clean t d = rw (digits_ascii t d)
 
-pub bcd_clean : (t : List ℕ) → all is_digit t ≡ true → bcdEncodeFault t ≡ 0
-unfolding bcdEncodeFault
+pub bcd_clean : (t : List ℕ) → all is_digit t ≡ true → bcd_encode_fault t ≡ 0
+unfolding bcd_encode_fault
 bcd_clean t d = rw d
 
-pub ebcdic_clean : (t : List ℕ) → all is_digit t ≡ true → ebcdicEncodeFault t ≡ 0
-unfolding ebcdicEncodeFault
+pub ebcdic_clean : (t : List ℕ) → all is_digit t ≡ true → ebcdic_encode_fault t ≡ 0
+unfolding ebcdic_encode_fault
 ebcdic_clean t d = rw (digits_ascii t d)
 
 -- copied bytes that fit are laid over the output

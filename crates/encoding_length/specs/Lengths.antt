@@ -17,8 +17,8 @@ use Rattle.octets.specs.Lists.{both, either, all}
 use Rattle.octets.specs.Numbers.{is_digit, is_ascii, decimal_of}
 use Rattle.refusal.specs.Numbers.{length_needs_digits, byte_count_wrong, no_ascii_meaning, length_not_digits}
 use Rattle.refusal.specs.Refusals.{plain, Told, tell}
-use Rattle.encoding_bcd.specs.Bcd.{bytes_of, packed, unpacked, decode_fault as bcdFault}
-use Rattle.encoding_ebcdic.specs.Ebcdic.{ascii_of, ebcdic_of, decode_fault as ebcdicFault}
+use Rattle.encoding_bcd.specs.Bcd.{bytes_of, packed, unpacked, decode_fault as bcd_fault}
+use Rattle.encoding_ebcdic.specs.Ebcdic.{ascii_of, ebcdic_of, decode_fault as ebcdic_fault}
 use Rattle.encoding_length.specs.declared.Encoding.{Encoding}
 use Rattle.encoding_length.specs.declared.Encoding.TheVariants.{Ascii, Bcd, Ebcdic}
 use Rattle.encoding_length.specs.declared.Measured.{Measured}
@@ -54,8 +54,8 @@ ascii_fault s = cond (all is_ascii s) 0 no_ascii_meaning
 -- 01: "then BCD 22 or text 24"
 unfoldable pub alphabet_fault : Encoding → ℕ → List ℕ → ℕ
 alphabet_fault Ascii w s = ascii_fault s
-alphabet_fault Bcd w s = bcdFault w s
-alphabet_fault Ebcdic w s = ebcdicFault s
+alphabet_fault Bcd w s = bcd_fault w s
+alphabet_fault Ebcdic w s = ebcdic_fault s
 
 -- 01: "Decoding order: 25, 23, then BCD 22 or text 24, then 6."
 unfoldable pub decode_fault : Encoding → ℕ → List ℕ → ℕ

@@ -22,7 +22,7 @@ use Rattle.field_table.specs.declared.Class.TheVariants.{N, A, An, Ans, Ns, Z, X
 use Rattle.field_read.specs.Items.{length_of, read_sized, read_item, read_field}
 use Rattle.field_read.specs.declared.FieldRead.TheVariants.{Content, Refused as FieldRefused}
 use Rattle.field_read.proofs.Found.{reads}
-use Rattle.encoding_bcd.specs.Bcd.{spread, unpacked as digitsFrom, is_bcd, spare_zero, decode_fault}
+use Rattle.encoding_bcd.specs.Bcd.{spread, unpacked as digits_from, is_bcd, spare_zero, decode_fault}
 use Rattle.bitmap.specs.Bits.{bit_of}
 use Rattle.bitmap.specs.Bitmaps.{is_field, has_field, fields_from, fields_of}
 use Rattle.bitmap_read.specs.Found.{maps_of, bitmaps_read}
@@ -355,7 +355,7 @@ unfolding house house_rows table_of BinaryNeverText
 house_refuses = record { as_reader = refuses_as_reader house 3; never_text = binary_never house 3; chip = binary_never house 3 55 refl }
 
 pub worked_refusals : WorkedRefusals
-unfolding link_answer link_judged link_head body_judged fields_judged judge_item place_item place_by place_sized content_size is_content content_fault size_of is_spelt is_part digits_of length_of are_digits decode_fault is_bcd spare_zero digitsFrom spread number between bitmaps_read maps_of bit_of fields_of fields_from has_field is_field house house_rows table_of
+unfolding link_answer link_judged link_head body_judged fields_judged judge_item place_item place_by place_sized content_size is_content content_fault size_of is_spelt is_part digits_of length_of are_digits decode_fault is_bcd spare_zero digits_from spread number between bitmaps_read maps_of bit_of fields_of fields_from has_field is_field house house_rows table_of
 worked_refusals =
     record {
       nothing = refl;

@@ -4,8 +4,8 @@ use mathlib.Core.List.{map}
 use Rattle.octets.specs.Lists.{between, lay, placed}
 use Rattle.octets.specs.Numbers.{digits, number}
 use Rattle.refusal.specs.Refusals.{converted, converted_into, checked}
-use Rattle.encoding_bcd.specs.Bcd.{evened, paired, packed, spread, unpacked, is_bcd, spare_zero, encode_fault as packFault, decode_fault as unpackFault}
-use Rattle.encoding_ebcdic.specs.Ebcdic.{table, ebcdic_of, encode_fault as translateFault}
+use Rattle.encoding_bcd.specs.Bcd.{evened, paired, packed, spread, unpacked, is_bcd, spare_zero, encode_fault as pack_fault, decode_fault as unpack_fault}
+use Rattle.encoding_ebcdic.specs.Ebcdic.{table, ebcdic_of, encode_fault as translate_fault}
 use Rattle.field_table.specs.House.{house, house_rows}
 use Rattle.field_table.specs.Table.{table_of}
 use Rattle.field_read.specs.Items.{length_of, read_sized, read_item, read_field}
@@ -18,5 +18,5 @@ use Rattle.validation_pan.specs.Pan.{digits_in, worth, weighed, luhn_sum, is_pan
 use Rattle.worked_table.specs.Worked.{outcome, cases}
 
 pub worked : map outcome cases ≡ cases
-unfolding outcome cases lay placed converted converted_into is_bcd spare_zero packFault unpackFault translateFault read_answer notes_after between digits number house house_rows table_of length_of read_sized read_item read_field bit_of is_field has_field count_of fields_from fields_of head_note field_note end_note field_notes notes_of bitmaps_read head_read read_fields entries_of maps_of read_body read_message reading_with checked evened paired packed spread unpacked table ebcdic_of digits_in worth weighed luhn_sum is_pan pan_fault
+unfolding outcome cases lay placed converted converted_into is_bcd spare_zero pack_fault unpack_fault translate_fault read_answer notes_after between digits number house house_rows table_of length_of read_sized read_item read_field bit_of is_field has_field count_of fields_from fields_of head_note field_note end_note field_notes notes_of bitmaps_read head_read read_fields entries_of maps_of read_body read_message reading_with checked evened paired packed spread unpacked table ebcdic_of digits_in worth weighed luhn_sum is_pan pan_fault
 worked = refl

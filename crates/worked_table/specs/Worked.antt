@@ -15,8 +15,8 @@
 use Rattle.std.specs.Prelude.{ℕ, ◌-◌, List, [], ◌∷◌, ◌++◌, map, replicate, length}
 use Rattle.refusal.specs.Numbers.{message_too_short, bitmap_incomplete, length_not_digits, length_over_table, pan_fails}
 use Rattle.refusal.specs.Refusals.{Told, tell, plain, refusal, converted, converted_into, told, checked, told_checked}
-use Rattle.encoding_bcd.specs.Bcd.{packed, unpacked, encode_fault as packFault, decode_fault as unpackFault}
-use Rattle.encoding_ebcdic.specs.Ebcdic.{ebcdic_of, encode_fault as translateFault}
+use Rattle.encoding_bcd.specs.Bcd.{packed, unpacked, encode_fault as pack_fault, decode_fault as unpack_fault}
+use Rattle.encoding_ebcdic.specs.Ebcdic.{ebcdic_of, encode_fault as translate_fault}
 use Rattle.field_table.specs.House.{house}
 use Rattle.message_language.specs.Worked.{mti, bitmap}
 use Rattle.message_notes.specs.Dialect.{dialect, notes_room}
@@ -40,12 +40,12 @@ unfoldable pub outcome : Case → Case
 outcome (reading s t b) =
     reading s (told_read (read_answer (dialect house) s (zeros room))) (notes_after (dialect house) s (zeros room))
 outcome (packing s t b) =
-    packing s (told (converted (packFault s) (packed s) (zeros 4))) (converted_into (packFault s) (packed s) (zeros 4))
+    packing s (told (converted (pack_fault s) (packed s) (zeros 4))) (converted_into (pack_fault s) (packed s) (zeros 4))
 outcome (unpacking k s t b) =
-    unpacking k s (told (converted (unpackFault k s) (unpacked k s) (zeros 4))) (converted_into (unpackFault k s) (unpacked k s) (zeros 4))
+    unpacking k s (told (converted (unpack_fault k s) (unpacked k s) (zeros 4))) (converted_into (unpack_fault k s) (unpacked k s) (zeros 4))
 outcome (carrying s t) = carrying s (told_checked (checked (pan_fault s) 0))
 outcome (translating s t b) =
-    translating s (told (converted (translateFault s) (map ebcdic_of s) (zeros 4))) (converted_into (translateFault s) (map ebcdic_of s) (zeros 4))
+    translating s (told (converted (translate_fault s) (map ebcdic_of s) (zeros 4))) (converted_into (translate_fault s) (map ebcdic_of s) (zeros 4))
 
 abbrev filled : List ℕ → ℕ → List ℕ
 filled r k = r ++ zeros k
