@@ -18,7 +18,7 @@ NAME = r"[A-Za-zμκ][A-Za-z0-9_₀-₉'′αβγκμσ-]*"
 TOKEN = re.compile(r'"(?:[^"\\]|\\.)*"|--[^\n]*|(?<![A-Za-z0-9_₀-₉\'-])' + NAME)
 RUST = re.compile(r'"(?:[^"\\]|\\.)*"|\'(?:[^\'\\]|\\.)\'|[A-Za-z_][A-Za-z0-9_]*')
 DECLARED = re.compile(r"^((?:(?:abbrev|unfoldable|pub|private|ruleset)\s+)*)(" + NAME + r") :", re.M)
-FIELD = re.compile(r"^  (?:pub )?(" + NAME + r") :", re.M)
+FIELD = re.compile(r"^ +(?:(?:abbrev|unfoldable|pub)\s+)*(" + NAME + r") :", re.M)
 
 
 def files(kind):

@@ -14,7 +14,7 @@ use Rattle.octets.proofs.Lists.{laid}
 use Rattle.bitmap.specs.Bits.{bit_in, bit_of, bytes_of}
 use Rattle.bitmap.specs.Bitmaps.{is_field, has_field, no_fields, map_bit, maps_for, chain, map_byte, maps_from}
 use Rattle.bitmap.proofs.Bits.{bytes_of_bits}
-use Rattle.bitmap.proofs.Maps.{field_not_65, maps_length, maps_at, byte_beyond, byte-first, byte-second, byte-other}
+use Rattle.bitmap.proofs.Maps.{field_not_65, maps_length, maps_at, byte_beyond, byte_first, byte_second, byte_other}
 
 -- every element passes still when one that passes is stored, and in a front
 pub all_set : (p : ℕ → Bool) (l : List ℕ) (i v : ℕ) → all p l ≡ true → p v ≡ true → all p (set l i v) ≡ true
@@ -74,20 +74,20 @@ module _ (m : ℕ) (s : List ℕ) (few : m ≤ 3) where
         let y : is_field f ≡ true = sym (field_not_65 f (omega arith) (omega arith)) ∙ ap not (ne_eqb f 65 n65) in
         rw (ne_eqb f 1 n1, ne_eqb f 65 n65, y, ne_eqb f 0 (λ (z : f ≡ 0). omega arith))
 
-    byte-bit : bit_in (map_byte m i x) j ≡ map_bit m s f
+    byte_bit : bit_in (map_byte m i x) j ≡ map_bit m s f
     unfolding map_bit
-    byte-bit =
+    byte_bit =
         by_eq f 1
         (λ e.
         let z : (f - 1) / 8 ≡ 0 = omega arith in
         let w : (f - 1) % 8 ≡ 0 = omega arith in
-        ap (λ (n : ℕ). bit_in n j) (sym (byte-first m i x (omega arith) (chain (leb 2 m) x) z refl))
+        ap (λ (n : ℕ). bit_in n j) (sym (byte_first m i x (omega arith) (chain (leb 2 m) x) z refl))
         ∙ ap (bit_in (chain (leb 2 m) x)) w ∙ bit_on (leb 2 m) x ∙ rw (eq-eqb f 1 e))
         (λ n1. by_eq f 65
         (λ e.
         let z : (f - 1) / 8 ≡ 8 = omega arith in
         let w : (f - 1) % 8 ≡ 0 = omega arith in
-        ap (λ (n : ℕ). bit_in n j) (sym (byte-second m i x (omega arith) (chain (leb 3 m) x) (λ (q : (f - 1) / 8 ≡ 0). omega arith) z refl))
+        ap (λ (n : ℕ). bit_in n j) (sym (byte_second m i x (omega arith) (chain (leb 3 m) x) (λ (q : (f - 1) / 8 ≡ 0). omega arith) z refl))
         ∙ ap (bit_in (chain (leb 3 m) x)) w ∙ bit_on (leb 3 m) x ∙ rw (ne_eqb f 1 n1, eq-eqb f 65 e))
         (λ n65. others n1 n65 ∙ sym (in_set n1 n65)))
       where
@@ -95,20 +95,20 @@ module _ (m : ℕ) (s : List ℕ) (few : m ≤ 3) where
         others n1 n65 =
             by_eq ((f - 1) / 8) 0
             (λ z.
-            ap (λ (n : ℕ). bit_in n ((f - 1) % 8)) (sym (byte-first m ((f - 1) / 8) (get_or s ((f - 1) / 8) 0) (omega arith) (chain (leb 2 m) (get_or s ((f - 1) / 8) 0)) z refl))
+            ap (λ (n : ℕ). bit_in n ((f - 1) % 8)) (sym (byte_first m ((f - 1) / 8) (get_or s ((f - 1) / 8) 0) (omega arith) (chain (leb 2 m) (get_or s ((f - 1) / 8) 0)) z refl))
             ∙ bit_off (leb 2 m) (get_or s ((f - 1) / 8) 0) ((f - 1) % 8) (omega arith) (omega arith))
             (λ nz. by_eq ((f - 1) / 8) 8
             (λ z.
-            ap (λ (n : ℕ). bit_in n ((f - 1) % 8)) (sym (byte-second m ((f - 1) / 8) (get_or s ((f - 1) / 8) 0) (omega arith) (chain (leb 3 m) (get_or s ((f - 1) / 8) 0)) nz z refl))
+            ap (λ (n : ℕ). bit_in n ((f - 1) % 8)) (sym (byte_second m ((f - 1) / 8) (get_or s ((f - 1) / 8) 0) (omega arith) (chain (leb 3 m) (get_or s ((f - 1) / 8) 0)) nz z refl))
             ∙ bit_off (leb 3 m) (get_or s ((f - 1) / 8) 0) ((f - 1) % 8) (omega arith) (omega arith))
-            (λ n8. ap (λ (n : ℕ). bit_in n ((f - 1) % 8)) (sym (byte-other m ((f - 1) / 8) (get_or s ((f - 1) / 8) 0) (omega arith) nz n8))))
+            (λ n8. ap (λ (n : ℕ). bit_in n ((f - 1) % 8)) (sym (byte_other m ((f - 1) / 8) (get_or s ((f - 1) / 8) 0) (omega arith) nz n8))))
 
-    pub made-bit : map_bit m s f ≡ bit_of (take (8 * m) made) f
+    pub made_bit : map_bit m s f ≡ bit_of (take (8 * m) made) f
     unfolding bit_of
-    made-bit =
+    made_bit =
         sym
         (rw (ne_eqb f 0 (λ (z : f ≡ 0). omega arith), get_or-take (8 * m) made ((f - 1) / 8) 0 (omega arith), sym (maps_at m s ((f - 1) / 8) (map_byte m ((f - 1) / 8) (get_or s ((f - 1) / 8) 0)) (omega arith) refl))
-        byte-bit)
+        byte_bit)
 
   tail_zero : (n : ℕ) → n < 24 - 8 * m → get_or (drop (8 * m) made) n 0 ≡ 0
   tail_zero n h =
@@ -134,5 +134,5 @@ module _ (m : ℕ) (s : List ℕ) (few : m ≤ 3) where
       let n : length (take (8 * m) made) ≡ 8 * m = length-take-le (8 * m) made (omega (arith, maps_length m s)) in
       let front : bytes_of (map_bit m s) (8 * m) 1 ≡ take (8 * m) made =
       ap (λ (k : ℕ). bytes_of (map_bit m s) k 1) (sym n)
-      ∙ bytes_of_bits (map_bit m s) (take (8 * m) made) (all_take (between 0 255) made (8 * m) a) (λ f l u. made-bit f l (omega (arith, n))) in
+      ∙ bytes_of_bits (map_bit m s) (take (8 * m) made) (all_take (between 0 255) made (8 * m) a) (λ f l u. made_bit f l (omega (arith, n))) in
       sym (take-append-drop (8 * m) made) ∙ rw (← front, beyond)

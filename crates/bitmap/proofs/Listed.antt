@@ -99,19 +99,19 @@ module _ (b f : ℕ) (d o : List ℕ) (rest n : ℕ) (c : Listing b f d o rest n
       (e.0, placed_done (bit_numbers b f) d (length (bit_numbers b f)) refl o (omega (arith, numbers_few b f)) e.1)
 
   module _ (some : rest ≡ 0 → ⊥) (room : 8 ≤ length d) where
-    listing-room : n < 8
-    listing-room =
+    listing_room : n < 8
+    listing_room =
         let e = ap length (numbers_more rest c.small some f) in
         omega (arith, numbers_few b f, written_room (bit_numbers b f) d o (bit_numbers rest f) n c.written)
 
-    pub listing-fits : n < length o
-    listing-fits = omega (arith, listing-room, c.written.size)
+    pub listing_fits : n < length o
+    listing_fits = omega (arith, listing_room, c.written.size)
 
-    pub listing-more : Listing b f d (set o n (f + first rest)) (others rest) (n + 1)
-    listing-more =
+    pub listing_more : Listing b f d (set o n (f + first rest)) (others rest) (n + 1)
+    listing_more =
         record {
           small = omega (arith, c.small);
-          written = written_byte (bit_numbers b f) d o (bit_numbers (others rest) f) n (f + first rest) (rw (numbers_more rest c.small some f) at c.written) listing-fits;
+          written = written_byte (bit_numbers b f) d o (bit_numbers (others rest) f) n (f + first rest) (rw (numbers_more rest c.small some f) at c.written) listing_fits;
         }
 
 -- The fields among the bits of byte i are the numbers of its set bits without 1 and 65.
@@ -214,26 +214,26 @@ module _ (s o : List ℕ) (i n : ℕ) (c : Filling s o i n) where
   filling_end h = written_end (fields_of s 3) (replicate 192 0) o (left s i) n c.written (left_end s i h)
 
   module _ (more : i < min (length s) 24) where
-    pub filling-over : get_or s i 0 ≡ 0 → Filling s o (i + 1) n
-    filling-over z = record { early = omega arith; written = rw (left_over s i (omega arith) z) at c.written }
+    pub filling_over : get_or s i 0 ≡ 0 → Filling s o (i + 1) n
+    filling_over z = record { early = omega arith; written = rw (left_over s i (omega arith) z) at c.written }
 
-    pub filling-lent : 8 ≤ length (mid_of n (192 - n) o)
-    filling-lent =
+    pub filling_lent : 8 ≤ length (mid_of n (192 - n) o)
+    filling_lent =
         let z : 192 - n ≡ length o - n = omega (arith, filling_size) in
         rw (z, part_rest n o) (omega (arith, filling_room, filling_size, length-drop n o))
 
-    pub filling-sum : (x k : ℕ) → k ≡ length (bit_numbers x (8 * i + 1)) → n + k ≤ 192
-    filling-sum x k h = omega (arith, filling_room, numbers_few x (8 * i + 1))
+    pub filling_sum : (x k : ℕ) → k ≡ length (bit_numbers x (8 * i + 1)) → n + k ≤ 192
+    filling_sum x k h = omega (arith, filling_room, numbers_few x (8 * i + 1))
 
-    pub filling-more : (x k : ℕ) (f : List ℕ) → x ≡ unchained i (get_or s i 0) → k ≡ length (bit_numbers x (8 * i + 1))
+    pub filling_more : (x k : ℕ) (f : List ℕ) → x ≡ unchained i (get_or s i 0) → k ≡ length (bit_numbers x (8 * i + 1))
         → f ≡ placed (bit_numbers x (8 * i + 1)) (mid_of n (192 - n) o) → Filling s (put_mid n (192 - n) o f) (i + 1) (n + k)
-    filling-more x k f hx hk hf =
+    filling_more x k f hx hk hf =
         let z : 192 - n ≡ length o - n = omega (arith, filling_size) in
         record {
           early = omega arith;
           written =
               rw z (written_more (fields_of s 3) (replicate 192 0) o (left s i) (bit_numbers x (8 * i + 1)) (left s (i + 1)) f n k
-              c.written (left_more s i x (omega arith) hx) (sym hk) (omega (arith, filling_size, filling-sum x k hk)) (rw z at hf));
+              c.written (left_more s i x (omega arith) hx) (sym hk) (omega (arith, filling_size, filling_sum x k hk)) (rw z at hf));
         }
 
 -- the ends of `unchain`
@@ -243,10 +243,10 @@ module _ (i x : ℕ) where
   unchained_first v z e = rw (eq-eqb i 0 z) e
 
   module _ (n : i ≡ 0 → ⊥) where
-    pub unchained-second : (v : ℕ) → i ≡ 8 → v ≡ chain false x → v ≡ unchained i x
+    pub unchained_second : (v : ℕ) → i ≡ 8 → v ≡ chain false x → v ≡ unchained i x
     unfolding unchained
-    unchained-second v z e = rw (ne_eqb i 0 n, eq-eqb i 8 z) e
+    unchained_second v z e = rw (ne_eqb i 0 n, eq-eqb i 8 z) e
 
-    pub unchained-other : (i ≡ 8 → ⊥) → x ≡ unchained i x
+    pub unchained_other : (i ≡ 8 → ⊥) → x ≡ unchained i x
     unfolding unchained
-    unchained-other m = rw (ne_eqb i 0 n, ne_eqb i 8 m)
+    unchained_other m = rw (ne_eqb i 0 n, ne_eqb i 8 m)

@@ -96,14 +96,14 @@ module _ (m i x : ℕ) where
   byte_beyond h = rw (le-leb (8 * m) i h)
 
   module _ (inside : i < 8 * m) where
-    pub byte-first : (v : ℕ) → i ≡ 0 → v ≡ chain (leb 2 m) x → v ≡ map_byte m i x
+    pub byte_first : (v : ℕ) → i ≡ 0 → v ≡ chain (leb 2 m) x → v ≡ map_byte m i x
     unfolding map_byte
-    byte-first v e h = rw (lt-leb (8 * m) i inside, eq-eqb i 0 e) h
+    byte_first v e h = rw (lt-leb (8 * m) i inside, eq-eqb i 0 e) h
 
-    pub byte-second : (v : ℕ) → (i ≡ 0 → ⊥) → i ≡ 8 → v ≡ chain (leb 3 m) x → v ≡ map_byte m i x
+    pub byte_second : (v : ℕ) → (i ≡ 0 → ⊥) → i ≡ 8 → v ≡ chain (leb 3 m) x → v ≡ map_byte m i x
     unfolding map_byte
-    byte-second v n e h = rw (lt-leb (8 * m) i inside, ne_eqb i 0 n, eq-eqb i 8 e) h
+    byte_second v n e h = rw (lt-leb (8 * m) i inside, ne_eqb i 0 n, eq-eqb i 8 e) h
 
-    pub byte-other : (i ≡ 0 → ⊥) → (i ≡ 8 → ⊥) → x ≡ map_byte m i x
+    pub byte_other : (i ≡ 0 → ⊥) → (i ≡ 8 → ⊥) → x ≡ map_byte m i x
     unfolding map_byte
-    byte-other n k = rw (lt-leb (8 * m) i inside, ne_eqb i 0 n, ne_eqb i 8 k)
+    byte_other n k = rw (lt-leb (8 * m) i inside, ne_eqb i 0 n, ne_eqb i 8 k)

@@ -28,40 +28,40 @@ module _ (s : List ℕ) (a : ℕ) where
   maps_no_start r h e = rw (lt-ltb (length s) (a + 8) (omega arith)) e
 
   module _ (start : a ≤ length s) where
-    pub maps-no-first : (r : BitmapsRead) → length s - a < 8 → r ≡ Refused (refusal bitmap_incomplete 0 a) → r ≡ bitmaps_read a 3 s
+    pub maps_no_first : (r : BitmapsRead) → length s - a < 8 → r ≡ Refused (refusal bitmap_incomplete 0 a) → r ≡ bitmaps_read a 3 s
     unfolding bitmaps_read
-    maps-no-first r h e = rw (lt-ltb (length s) (a + 8) (omega arith)) e
+    maps_no_first r h e = rw (lt-ltb (length s) (a + 8) (omega arith)) e
 
     module _ (one : 8 ≤ length s - a) (flag : Bool) (first : flag ≡ bit_of (take (length s - a) (drop a s)) 1) where
-      first-is : flag ≡ bit_of (drop a s) 1
-      first-is = first ∙ ap (λ (l : List ℕ). bit_of l 1) (to_end a s)
+      first_is : flag ≡ bit_of (drop a s) 1
+      first_is = first ∙ ap (λ (l : List ℕ). bit_of l 1) (to_end a s)
 
       pub maps_one : not flag ≡ true → Count 1 ≡ bitmaps_read a 3 s
       unfolding bitmaps_read
-      maps_one t = rw (le-ltb (length s) (a + 8) (omega arith), ← first-is, not-true flag t)
+      maps_one t = rw (le-ltb (length s) (a + 8) (omega arith), ← first_is, not-true flag t)
 
       module _ (on : not flag ≡ false) where
-        pub maps-no-second : (r : BitmapsRead) → length s - a < 16 → r ≡ Refused (refusal bitmap_incomplete 0 (a + 8)) → r ≡ bitmaps_read a 3 s
+        pub maps_no_second : (r : BitmapsRead) → length s - a < 16 → r ≡ Refused (refusal bitmap_incomplete 0 (a + 8)) → r ≡ bitmaps_read a 3 s
         unfolding bitmaps_read
-        maps-no-second r h e = rw (le-ltb (length s) (a + 8) (omega arith), ← first-is, not-false flag on, lt-ltb (length s) (a + 16) (omega arith)) e
+        maps_no_second r h e = rw (le-ltb (length s) (a + 8) (omega arith), ← first_is, not-false flag on, lt-ltb (length s) (a + 16) (omega arith)) e
 
         module _ (two : 16 ≤ length s - a) (flag2 : Bool) (second : flag2 ≡ bit_of (take (length s - a) (drop a s)) 65) where
           second_is : flag2 ≡ bit_of (drop a s) 65
           second_is = second ∙ ap (λ (l : List ℕ). bit_of l 65) (to_end a s)
 
-          pub maps-two : not flag2 ≡ true → Count 2 ≡ bitmaps_read a 3 s
+          pub maps_two : not flag2 ≡ true → Count 2 ≡ bitmaps_read a 3 s
           unfolding bitmaps_read
-          maps-two t = rw (le-ltb (length s) (a + 8) (omega arith), ← first-is, not-false flag on, le-ltb (length s) (a + 16) (omega arith), ← second_is, not-true flag2 t)
+          maps_two t = rw (le-ltb (length s) (a + 8) (omega arith), ← first_is, not-false flag on, le-ltb (length s) (a + 16) (omega arith), ← second_is, not-true flag2 t)
 
-          pub maps-no-third : (r : BitmapsRead) → not flag2 ≡ false → length s - a < 24 → r ≡ Refused (refusal bitmap_incomplete 0 (a + 16)) → r ≡ bitmaps_read a 3 s
+          pub maps_no_third : (r : BitmapsRead) → not flag2 ≡ false → length s - a < 24 → r ≡ Refused (refusal bitmap_incomplete 0 (a + 16)) → r ≡ bitmaps_read a 3 s
           unfolding bitmaps_read
-          maps-no-third r t h e =
-              rw (le-ltb (length s) (a + 8) (omega arith), ← first-is, not-false flag on, le-ltb (length s) (a + 16) (omega arith), ← second_is, not-false flag2 t, lt-ltb (length s) (a + 24) (omega arith)) e
+          maps_no_third r t h e =
+              rw (le-ltb (length s) (a + 8) (omega arith), ← first_is, not-false flag on, le-ltb (length s) (a + 16) (omega arith), ← second_is, not-false flag2 t, lt-ltb (length s) (a + 24) (omega arith)) e
 
-          pub maps-three : not flag2 ≡ false → 24 ≤ length s - a → Count 3 ≡ bitmaps_read a 3 s
+          pub maps_three : not flag2 ≡ false → 24 ≤ length s - a → Count 3 ≡ bitmaps_read a 3 s
           unfolding bitmaps_read
-          maps-three t h =
-              rw (le-ltb (length s) (a + 8) (omega arith), ← first-is, not-false flag on, le-ltb (length s) (a + 16) (omega arith), ← second_is, not-false flag2 t, le-ltb (length s) (a + 24) (omega arith))
+          maps_three t h =
+              rw (le-ltb (length s) (a + 8) (omega arith), ← first_is, not-false flag on, le-ltb (length s) (a + 16) (omega arith), ← second_is, not-false flag2 t, le-ltb (length s) (a + 24) (omega arith))
 
 -- What it means that k bitmaps are found, the first at a, where at most m are taken.
 pub record FoundMaps (a m : ℕ) (s : List ℕ) (k : ℕ) : Type 0 where

@@ -43,13 +43,13 @@ module _ (n m : ℕ) (s : List ℕ) (halved : m ≡ bytes_of n) where
     half_over g = rw (eq-eqb (length s) (bytes_of n) (sized ∙ halved), ← tested, not-true flag g)
 
     module _ (good : not flag ≡ false) (spare : Bool) (spared : spare ≡ spare_zero n s) where
-      pub spare-over : not spare ≡ true → not_bcd ≡ decode_fault n s
+      pub spare_over : not spare ≡ true → not_bcd ≡ decode_fault n s
       unfolding decode_fault
-      spare-over g = rw (eq-eqb (length s) (bytes_of n) (sized ∙ halved), ← tested, not-false flag good, ← spared, not-true spare g)
+      spare_over g = rw (eq-eqb (length s) (bytes_of n) (sized ∙ halved), ← tested, not-false flag good, ← spared, not-true spare g)
 
-      pub no-fault : not spare ≡ false → 0 ≡ decode_fault n s
+      pub no_fault : not spare ≡ false → 0 ≡ decode_fault n s
       unfolding decode_fault
-      no-fault g = rw (eq-eqb (length s) (bytes_of n) (sized ∙ halved), ← tested, not-false flag good, ← spared, not-false spare g)
+      no_fault g = rw (eq-eqb (length s) (bytes_of n) (sized ∙ halved), ← tested, not-false flag good, ← spared, not-false spare g)
 
 -- a source without fault has the bytes that n digits take
 pub decode_clean : (fault n : ℕ) (s : List ℕ) → fault ≡ decode_fault n s → fault ≡ 0 → length s ≡ bytes_of n

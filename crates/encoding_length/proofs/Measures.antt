@@ -49,15 +49,15 @@ module _ (e : Encoding) (w : ℕ) (s : List ℕ) where
 
   -- flag is what the test of the digit count answered
   module _ (flag : Bool) (tested : flag ≡ is_width w) where
-    pub digits-wrong : not flag ≡ true → Refused (plain length_needs_digits) ≡ measured e w s
+    pub digits_wrong : not flag ≡ true → Refused (plain length_needs_digits) ≡ measured e w s
     unfolding decode_fault
-    digits-wrong g = measured_fails length_needs_digits (rw (← tested, not-true flag g)) (λ z. omega arith)
+    digits_wrong g = measured_fails length_needs_digits (rw (← tested, not-true flag g)) (λ z. omega arith)
 
     -- m is the byte count as the code has it
     module _ (good : not flag ≡ false) (m : ℕ) (asked : m ≡ size_of e w) where
-      pub bytes-wrong : (length s ≡ m → ⊥) → Refused (plain byte_count_wrong) ≡ measured e w s
+      pub bytes_wrong : (length s ≡ m → ⊥) → Refused (plain byte_count_wrong) ≡ measured e w s
       unfolding decode_fault
-      bytes-wrong h =
+      bytes_wrong h =
           measured_fails byte_count_wrong (rw (← tested, not-false flag good, ne_eqb (length s) (size_of e w) (λ z. h (z ∙ sym asked)))) (λ z. omega arith)
 
       -- d is the text as it was lent, with room for three characters, and r what writing into it answered
@@ -68,12 +68,12 @@ module _ (e : Encoding) (w : ℕ) (s : List ℕ) where
         fits : length (text_of e w s) ≤ length d
         fits = omega (arith, long, width_most w (sym tested ∙ not-false flag good))
 
-        from-text : decode_fault e w s ≡ cond (eqb (alphabet_fault e w s) 0) (cond (all is_digit (text_of e w s)) 0 length_not_digits) (alphabet_fault e w s)
+        from_text : decode_fault e w s ≡ cond (eqb (alphabet_fault e w s) 0) (cond (all is_digit (text_of e w s)) 0 length_not_digits) (alphabet_fault e w s)
         unfolding decode_fault
-        from-text = rw (← tested, not-false flag good, eq-eqb (length s) (size_of e w) (sized ∙ asked))
+        from_text = rw (← tested, not-false flag good, eq-eqb (length s) (size_of e w) (sized ∙ asked))
 
-        pub passed-up : (why : Refusal) → r ≡ Unwritten why → Refused why ≡ measured e w s
-        passed-up why g =
+        pub passed_up : (why : Refusal) → r ≡ Unwritten why → Refused why ≡ measured e w s
+        passed_up why g =
             by_eq (alphabet_fault e w s) 0
             (λ z.
             let clash : Unwritten why ≡ Written (length (text_of e w s)) = sym g ∙ answered ∙ converted_fits _ _ d z fits in
@@ -82,7 +82,7 @@ module _ (e : Encoding) (w : ℕ) (s : List ℕ) where
             (λ h.
             let same : Unwritten why ≡ Unwritten (plain (alphabet_fault e w s)) = sym g ∙ answered ∙ converted_fails _ _ d h in
             let is : why ≡ plain (alphabet_fault e w s) = cc in
-            ap Refused is ∙ measured_fails (alphabet_fault e w s) (from-text ∙ rw (ne_eqb (alphabet_fault e w s) 0 h)) h)
+            ap Refused is ∙ measured_fails (alphabet_fault e w s) (from_text ∙ rw (ne_eqb (alphabet_fault e w s) 0 h)) h)
 
         -- n is the length that it answered
         module _ (n : ℕ) (wrote : r ≡ Written n) where
@@ -104,19 +104,19 @@ module _ (e : Encoding) (w : ℕ) (s : List ℕ) where
             same : take n o ≡ text_of e w s
             same = rw (left, converted_into_fits _ _ d clean fits) (front n (text_of e w s) d (sym whole))
 
-            pub read-room : n ≤ length o
-            read-room = rw (left, converted_into_fits _ _ d clean fits, lay_length (text_of e w s) d fits, whole) fits
+            pub read_room : n ≤ length o
+            read_room = rw (left, converted_into_fits _ _ d clean fits, lay_length (text_of e w s) d fits, whole) fits
 
             pub read_count : n ≡ length (take n o)
-            read_count = sym (length-take-le n o read-room)
+            read_count = sym (length-take-le n o read_room)
 
-            pub read-few : length (take n o) ≤ 16
-            read-few = omega (arith, read_count, whole, fits, room)
+            pub read_few : length (take n o) ≤ 16
+            read_few = omega (arith, read_count, whole, fits, room)
 
             -- and v what measuring its characters answered
-            pub measured-text : (v : Measured) → v ≡ cond (all is_digit (take n o)) (Length (decimal_of (take n o))) (Refused (plain length_not_digits)) → v ≡ measured e w s
-            measured-text v told =
-                let read : decode_fault e w s ≡ cond (all is_digit (text_of e w s)) 0 length_not_digits = from-text ∙ rw (eq-eqb (alphabet_fault e w s) 0 clean) in
+            pub measured_text : (v : Measured) → v ≡ cond (all is_digit (take n o)) (Length (decimal_of (take n o))) (Refused (plain length_not_digits)) → v ≡ measured e w s
+            measured_text v told =
+                let read : decode_fault e w s ≡ cond (all is_digit (text_of e w s)) 0 length_not_digits = from_text ∙ rw (eq-eqb (alphabet_fault e w s) 0 clean) in
                 told ∙ rw same
                 (by_bool (all is_digit (text_of e w s)) (λ t. rw t (measured_passes (read ∙ rw t)))
                 (λ t. rw t (measured_fails length_not_digits (read ∙ rw t) (λ z. omega arith))))

@@ -39,13 +39,13 @@ module _ (flag : Bool) (w n : ℕ) (tested : flag ≡ is_width w) where
   count_wrong g = rw (← tested, not-true flag g)
 
   module _ (good : not flag ≡ false) (limit : ℕ) (power : limit ≡ 10 ^ w) where
-    pub length-fits : n < limit → 0 ≡ encode_fault w n
+    pub length_fits : n < limit → 0 ≡ encode_fault w n
     unfolding encode_fault
-    length-fits h = rw (← tested, not-false flag good, ← power, lt-ltb n limit h)
+    length_fits h = rw (← tested, not-false flag good, ← power, lt-ltb n limit h)
 
-    pub length-long : limit ≤ n → length_needs_digits ≡ encode_fault w n
+    pub length_long : limit ≤ n → length_needs_digits ≡ encode_fault w n
     unfolding encode_fault
-    length-long h = rw (← tested, not-false flag good, ← power, le-ltb n limit h)
+    length_long h = rw (← tested, not-false flag good, ← power, le-ltb n limit h)
 
 -- what a length without fault is
 module _ (fault w n : ℕ) (tested : fault ≡ encode_fault w n) (good : fault ≡ 0) where

@@ -35,9 +35,9 @@ module _ (w m : ℕ) (c : Class) (s : List ℕ) where
   item_cut h = rw (lt-ltb (length s) w h)
 
   module _ (whole : w ≤ length s) (flag : Bool) (tested : flag ≡ all is_digit (take w s)) where
-    pub item-no-digit : not flag ≡ true → Refused length_not_digits ≡ read_item w m c s
+    pub item_no_digit : not flag ≡ true → Refused length_not_digits ≡ read_item w m c s
     unfolding read_item
-    item-no-digit t = rw (le-ltb (length s) w whole, ← tested, not-true flag t)
+    item_no_digit t = rw (le-ltb (length s) w whole, ← tested, not-true flag t)
 
     module _ (digits : not flag ≡ false) (n : ℕ) (is_n : n ≡ length_of w m (take w s)) where
       pub item_long : m < n → Refused length_over_table ≡ read_item w m c s
@@ -45,17 +45,17 @@ module _ (w m : ℕ) (c : Class) (s : List ℕ) where
       item_long h = rw (le-ltb (length s) w whole, ← tested, not-false flag digits, ← is_n, lt-ltb m n h)
 
       module _ (short : n ≤ m) where
-        pub item-past : length s - w < n → Refused past_the_end ≡ read_item w m c s
+        pub item_past : length s - w < n → Refused past_the_end ≡ read_item w m c s
         unfolding read_item read_sized
-        item-past h = rw (le-ltb (length s) w whole, ← tested, not-false flag digits, ← is_n, le-ltb m n short, lt-ltb (length s - w) n h)
+        item_past h = rw (le-ltb (length s) w whole, ← tested, not-false flag digits, ← is_n, le-ltb m n short, lt-ltb (length s - w) n h)
 
         module _ (room : n ≤ length s - w) (flag2 : Bool) (tested2 : flag2 ≡ either (is_binary c) (all is_ascii (take (w + n - w) (drop w s)))) where
           same : flag2 ≡ either (is_binary c) (all is_ascii (take n (drop w s)))
           same = tested2 ∙ ap (λ (k : ℕ). either (is_binary c) (all is_ascii (take k (drop w s)))) (add-sub_cancel_left w n)
 
-          pub item-high : not flag2 ≡ true → Refused text_not_ascii ≡ read_item w m c s
+          pub item_high : not flag2 ≡ true → Refused text_not_ascii ≡ read_item w m c s
           unfolding read_item read_sized
-          item-high t = rw (le-ltb (length s) w whole, ← tested, not-false flag digits, ← is_n, le-ltb m n short, le-ltb (length s - w) n room, ← same, not-true flag2 t)
+          item_high t = rw (le-ltb (length s) w whole, ← tested, not-false flag digits, ← is_n, le-ltb m n short, le-ltb (length s - w) n room, ← same, not-true flag2 t)
 
           pub item_read : not flag2 ≡ false → Content w n ≡ read_item w m c s
           unfolding read_item read_sized

@@ -30,13 +30,13 @@ module _ (c : Class) (s : List ℕ) (flag : Bool) (binary : flag ≡ is_binary c
   text_binary h = rw (← binary, h)
 
   module _ (text : flag ≡ false) (flag2 : Bool) (tested : flag2 ≡ all is_ascii s) where
-    pub text-ascii : flag2 ≡ true → 0 ≡ text_fault c s
+    pub text_ascii : flag2 ≡ true → 0 ≡ text_fault c s
     unfolding text_fault
-    text-ascii h = rw (← binary, text, ← tested, h)
+    text_ascii h = rw (← binary, text, ← tested, h)
 
-    pub text-high : flag2 ≡ false → text_not_ascii ≡ text_fault c s
+    pub text_high : flag2 ≡ false → text_not_ascii ≡ text_fault c s
     unfolding text_fault
-    text-high h = rw (← binary, text, ← tested, h)
+    text_high h = rw (← binary, text, ← tested, h)
 
 -- the ends of `exact_fault`
 module _ (t : Table) (f : ℕ) (s : List ℕ) (flag : Bool) (tested : flag ≡ is_allowed_length t f (length s)) where

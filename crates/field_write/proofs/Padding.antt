@@ -51,11 +51,11 @@ module _ (t : Table) (f w n : ℕ) (width : w ≡ t.width f) where
   none_variable h = sym (missing_variable t f n (λ z. h (width ∙ z)))
 
   module _ (m : ℕ) (fixed : w ≡ 0) (most : m ≡ t.most f) where
-    pub none-long : m < n → 0 ≡ missing t f n
-    none-long h = sym (missing_fixed t f n (sym width ∙ fixed) ∙ omega arith)
+    pub none_long : m < n → 0 ≡ missing t f n
+    none_long h = sym (missing_fixed t f n (sym width ∙ fixed) ∙ omega arith)
 
-    pub some-short : m - n ≡ missing t f n
-    some-short = sym (missing_fixed t f n (sym width ∙ fixed) ∙ omega arith)
+    pub some_short : m - n ≡ missing t f n
+    some_short = sym (missing_fixed t f n (sym width ∙ fixed) ∙ omega arith)
 
 -- the ends of `written_size`
 pub size_none : (t : Table) (f n : ℕ) → longest < n → 0 ≡ cond (leb n longest) (written_size t f n) 0
@@ -92,10 +92,10 @@ module _ (t : Table) (f m : ℕ) (s d : List ℕ) (most : m ≡ t.most f) where
     fits : field_into t f s d ≡ placed (field_bytes t f s) d
     fits = into_fits t f s d (omega (arith, most, short))
 
-    pub put-fixed : (c : Class) (k : ℕ) → w ≡ 0 → k ≡ missing t f (length s) → c ≡ t.class f → e ≡ placed (padded c k s) d → e ≡ field_into t f s d
+    pub put_fixed : (c : Class) (k : ℕ) → w ≡ 0 → k ≡ missing t f (length s) → c ≡ t.class f → e ≡ placed (padded c k s) d → e ≡ field_into t f s d
     unfolding field_bytes cleaned digits
-    put-fixed c k z pad class p = let q : e ≡ placed (field_bytes t f s) d = rw (← width, z, ← class, ← pad) p in q ∙ sym fits
+    put_fixed c k z pad class p = let q : e ≡ placed (field_bytes t f s) d = rw (← width, z, ← class, ← pad) p in q ∙ sym fits
 
-    pub put-variable : (w ≡ 0 → ⊥) → e ≡ placed (decimal w (length s) ++ s) d → e ≡ field_into t f s d
+    pub put_variable : (w ≡ 0 → ⊥) → e ≡ placed (decimal w (length s) ++ s) d → e ≡ field_into t f s d
     unfolding field_bytes cleaned
-    put-variable h p = let q : e ≡ placed (field_bytes t f s) d = rw (← none_variable t f w (length s) width h, padded_none (t.class f) s, ← width) p in q ∙ sym fits
+    put_variable h p = let q : e ≡ placed (field_bytes t f s) d = rw (← none_variable t f w (length s) width h, padded_none (t.class f) s, ← width) p in q ∙ sym fits

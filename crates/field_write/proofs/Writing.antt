@@ -24,7 +24,7 @@ module _ (a b d : List ℕ) (n : ℕ) (first : length a ≡ n) where
     second_short h = placed_short (a ++ b) d (n + k) both_long (omega arith)
 
     -- e is the output once a is placed, and f its rest once b is placed there
-    pub both-placed : k ≤ length d - n → (e f : List ℕ) → e ≡ placed a d → f ≡ placed b (mid_of n (length e - n) e) → put_mid n (length e - n) e f ≡ placed (a ++ b) d
-    both-placed h e f one two =
+    pub both_placed : k ≤ length d - n → (e f : List ℕ) → e ≡ placed a d → f ≡ placed b (mid_of n (length e - n) e) → put_mid n (length e - n) e f ≡ placed (a ++ b) d
+    both_placed h e f one two =
         placed_part a b d e f n (one ∙ placed_fits a d n first within) first (omega arith) two
         ∙ sym (placed_fits (a ++ b) d (n + k) both_long (omega arith))

@@ -15,7 +15,7 @@ use Rattle.bitmap.specs.Bits.{bit_of}
 use Rattle.bitmap.specs.Bitmaps.{is_field, has_field, count_of, fields_from, fields_of, is_in, no_fields, set_of, chain, map_bit, maps_for, map_byte, maps_from}
 use Rattle.bitmap.proofs.Maps.{field_low, maps_length}
 use Rattle.bitmap.proofs.Sets.{none_is, from_is, set_is, has_set}
-use Rattle.bitmap.proofs.ByBits.{made-bit, maps_made}
+use Rattle.bitmap.proofs.ByBits.{made_bit, maps_made}
 use Rattle.message_contents.specs.Contents.{number_allowed, bitmaps_with}
 
 -- numbers that rise above last, each allowed where there are m bitmaps
@@ -146,7 +146,7 @@ module _ (fs : List ℕ) (m : ℕ) (few : m ≤ 3) (are : all is_field fs ≡ tr
 
   bit_of_lem : (f : ℕ) → 1 ≤ f → f ≤ 64 * m → bit_of maps f ≡ map_bit m s f
   unfolding bitmaps_with
-  bit_of_lem f l u = sym (made-bit m s few f l u ∙ ap (λ (x : List ℕ). bit_of (take (8 * m) x) f) made_is)
+  bit_of_lem f l u = sym (made_bit m s few f l u ∙ ap (λ (x : List ℕ). bit_of (take (8 * m) x) f) made_is)
 
   bit_1 : 1 ≤ m → bit_of maps 1 ≡ leb 2 m
   unfolding map_bit

@@ -41,13 +41,13 @@ module _ {f end : ℕ} {whole : List Entry} where
   finding_none c e = e ∙ sym c.same
 
   module _ {g a z : ℕ} {es : List Entry} (c : Finding f end whole (entry g a z ∷ es)) where
-    pub finding-here : g ≡ f → At a z ≡ found_in f end whole
+    pub finding_here : g ≡ f → At a z ≡ found_in f end whole
     unfolding found_in
-    finding-here e = sym (c.same ∙ rw (found_in, eq-eqb g f e))
+    finding_here e = sym (c.same ∙ rw (found_in, eq-eqb g f e))
 
-    pub finding-next : (g ≡ f → ⊥) → Finding f end whole es
+    pub finding_next : (g ≡ f → ⊥) → Finding f end whole es
     unfolding found_in
-    finding-next ne = record { same = c.same ∙ rw (found_in, ne_eqb g f ne) }
+    finding_next ne = record { same = c.same ∙ rw (found_in, ne_eqb g f ne) }
 
 -- `look_up`
 module _ (d : Dialect) (v n : List ℕ) (f : ℕ) (w : Walked) (e : w ≡ walked d (within v any) n) where

@@ -24,8 +24,8 @@ module _ (m : ℕ) (s : List ℕ) (k : ℕ) (e : head_read m s ≡ Count k) (lea
   pub head_few : k ≤ m
   head_few = (head_found m s k least e).maps.few
 
-  pub head-room : 4 + 8 * k ≤ length s
-  head-room = (head_found m s k least e).maps.long
+  pub head_room : 4 + 8 * k ≤ length s
+  head_room = (head_found m s k least e).maps.long
 
 -- the answer and the notes together
 pub record Ends (d : Dialect) (s b : List ℕ) (r : ReadAnswer) (after : List ℕ) : Type 0 where

@@ -33,9 +33,9 @@ module _ (t : Table) (at f : ℕ) (fs s : List ℕ) where
     unfolding read_fields
     fields_read = rw (read_fields, e)
 
-    pub entries-read : entries_of t at (f ∷ fs) s ≡ entry_found f at a n ∷ entries_of t (at + (a + n)) fs (drop (a + n) s)
+    pub entries_read : entries_of t at (f ∷ fs) s ≡ entry_found f at a n ∷ entries_of t (at + (a + n)) fs (drop (a + n) s)
     unfolding entries_of
-    entries-read = rw (entries_of, e)
+    entries_read = rw (entries_of, e)
 
 -- what a field that is read takes
 pub read_found : (t : Table) (f : ℕ) (s : List ℕ) (a n : ℕ) → read_field t f s ≡ Content a n → Found (t.width f) (t.most f) (t.class f) s a n
@@ -149,7 +149,7 @@ taken_more t at f fs s u a n e k =
       joined = parts ∙ sym (append_assoc (ds t f s a n g) (c t f s a n g ++ k.body) k.after ∙ rw (append_assoc (c t f s a n g) k.body k.after));
       long = omega (arith, sized, k.long);
       fields =
-          rw (entries-read t at f fs s a n e)
+          rw (entries_read t at f fs s a n e)
           (fields_one t at f a n fs (ds t f s a n g) (c t f s a n g) k.body (entries_of t (at + (a + n)) fs (drop (a + n) s)) st m (item_found t f s a n g) k.fields);
     }
 
@@ -180,7 +180,7 @@ given_more t at f fs after ds c rest es i k =
     let a : at + (length ds + length c) + length rest ≡ at + length (ds ++ (c ++ rest)) = omega arith in
     record {
       answer = rw regroup (fields_read t at f fs (ds ++ (c ++ (rest ++ after))) (length ds) (length c) e ∙ rw d (k.answer ∙ ap Used a));
-      entries = rw regroup (entries-read t at f fs (ds ++ (c ++ (rest ++ after))) (length ds) (length c) e ∙ rw d (ap (λ (l : List Entry). entry f (at + length ds) (length c) ∷ l) k.entries));
+      entries = rw regroup (entries_read t at f fs (ds ++ (c ++ (rest ++ after))) (length ds) (length c) e ∙ rw d (ap (λ (l : List Entry). entry f (at + length ds) (length c) ∷ l) k.entries));
     }
 
 pub given : (t : Table) {at : ℕ} {fs bs : List ℕ} {es : List Entry} → Fields t at fs bs es → (after : List ℕ) → Given t at fs bs after es
@@ -194,4 +194,4 @@ entries_most t at [] s = omega arith
 entries_most t at (f ∷ fs) s =
     by_read (read_field t f s)
     (λ n e. rw (entries_refused t at f fs s n e) (omega arith))
-    (λ a n e. rw (entries-read t at f fs s a n e) (omega (arith, entries_most t (at + (a + n)) fs (drop (a + n) s))))
+    (λ a n e. rw (entries_read t at f fs s a n e) (omega (arith, entries_most t (at + (a + n)) fs (drop (a + n) s))))

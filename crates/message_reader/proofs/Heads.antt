@@ -28,13 +28,13 @@ module _ (m : ℕ) (s : List ℕ) where
   head_short h = rw (lt-ltb (length s) 12 h)
 
   module _ (long : 12 ≤ length s) (n : ℕ) (is : n ≡ lead is_digit (take 4 s)) where
-    pub head-no-digit : n < 4 → Refused (refusal mti_not_digits 0 n) ≡ head_read m s
+    pub head_no_digit : n < 4 → Refused (refusal mti_not_digits 0 n) ≡ head_read m s
     unfolding head_read
-    head-no-digit h = rw (le-ltb (length s) 12 long, ← is, lt-ltb n 4 h)
+    head_no_digit h = rw (le-ltb (length s) 12 long, ← is, lt-ltb n 4 h)
 
-    pub head-maps : (r : BitmapsRead) → 4 ≤ n → r ≡ bitmaps_read 4 m s → r ≡ head_read m s
+    pub head_maps : (r : BitmapsRead) → 4 ≤ n → r ≡ bitmaps_read 4 m s → r ≡ head_read m s
     unfolding head_read
-    head-maps r h e = rw (le-ltb (length s) 12 long, ← is, le-ltb n 4 h) e
+    head_maps r h e = rw (le-ltb (length s) 12 long, ← is, le-ltb n 4 h) e
 
 -- What it means that a head with k bitmaps is read, where at most m are taken.
 pub record Headed (m : ℕ) (s : List ℕ) (k : ℕ) : Type 0 where
@@ -74,4 +74,4 @@ pub head_reads : (m : ℕ) (s : List ℕ) (k : ℕ) → Headed m s k → head_re
 head_reads m s k h =
     let long : 12 ≤ length s = omega (arith, h.maps.long, maps_least 4 m s k h.maps) in
     let mti : 4 ≤ lead is_digit (take 4 s) = of_digits s long h.digits in
-    sym (head-maps m s long (lead is_digit (take 4 s)) refl (Count k) mti (sym (maps_read 4 m s k h.maps)))
+    sym (head_maps m s long (lead is_digit (take 4 s)) refl (Count k) mti (sym (maps_read 4 m s k h.maps)))

@@ -23,7 +23,7 @@ use Rattle.message_notes.proofs.Sizes.{field_long, fields_long}
 use Rattle.message_reader.specs.declared.FieldsRead.TheVariants.{Used}
 use Rattle.message_reader.specs.Reader.{read_fields, entry_found, entries_of, read_body, reading_with}
 use Rattle.message_reader.proofs.Turns.{Met, met}
-use Rattle.message_reader.proofs.Fields.{fields_read, first_placed, entries_refused, entries-read, entries_most, read_within}
+use Rattle.message_reader.proofs.Fields.{fields_read, first_placed, entries_refused, entries_read, entries_most, read_within}
 
 -- the notes of those of the list that are read from the place at on
 abbrev coming : Form → Table → List ℕ → ℕ → List ℕ → List ℕ
@@ -59,30 +59,30 @@ module _ {F : Form} {t : Table} {s fs : List ℕ} {start : ℕ} {d o : List ℕ}
       met t s fs at i f _ low e (r ∙ first_placed t at f (drop (i + 1) fs) (take (length s - at) (drop at s)) c.used all)
 
   module _ {f : ℕ} {x : FieldRead} (k : Met t s fs at i f x) where
-    pub noted-refused : {n : ℕ} → x ≡ FieldRefused n → (w ≡ length (coming F t s start fs)) × (o ≡ lay (coming F t s start fs) d)
-    noted-refused is = noted_done (rw k.here (entries_refused t at f (drop (i + 1) fs) (drop at s) _ (sym k.gives ∙ is)))
+    pub noted_refused : {n : ℕ} → x ≡ FieldRefused n → (w ≡ length (coming F t s start fs)) × (o ≡ lay (coming F t s start fs) d)
+    noted_refused is = noted_done (rw k.here (entries_refused t at f (drop (i + 1) fs) (drop at s) _ (sym k.gives ∙ is)))
 
     -- one note less is still to come
     left : note_size F * length (drop i fs) ≡ note_size F + note_size F * length (drop (i + 1) fs)
     left = ap (λ (l : List ℕ). note_size F * length l) k.here ∙ omega (arith, mul-suc (note_size F) (length (drop (i + 1) fs)))
 
-    pub noted-room : w + note_size F ≤ length o
-    noted-room = omega (arith, c.room, left, c.written.size)
+    pub noted_room : w + note_size F ≤ length o
+    noted_room = omega (arith, c.room, left, c.written.size)
 
     module _ {a n : ℕ} (is : x ≡ Content a n) where
-      pub noted-within : at + (a + n) ≤ length s
-      noted-within = omega (arith, read_within t f (drop at s) a n (sym k.gives ∙ is), length-drop at s, c.inside)
+      pub noted_within : at + (a + n) ≤ length s
+      noted_within = omega (arith, read_within t f (drop at s) a n (sym k.gives ∙ is), length-drop at s, c.inside)
 
       next : coming F t s at (drop i fs) ≡ field_note F (entry_found f at a n) ++ coming F t s (at + (a + n)) (drop (i + 1) fs)
       unfolding field_notes
-      next = rw (k.here, entries-read t at f (drop (i + 1) fs) (drop at s) a n (sym k.gives ∙ is), drop-drop (a + n) at s)
+      next = rw (k.here, entries_read t at f (drop (i + 1) fs) (drop at s) a n (sym k.gives ∙ is), drop-drop (a + n) at s)
 
       pub noted_read : {p : List ℕ} → p ≡ placed (field_note F (entry_found f at a n)) (mid_of w (length o - w) o)
           → Noted F t s fs start d (put_mid w (length o - w) o p) (at + (a + n)) (w + note_size F) (i + 1)
       noted_read {p} h =
           record {
-            inside = noted-within;
-            written = written_more (coming F t s start fs) d o (coming F t s at (drop i fs)) (field_note F (entry_found f at a n)) (coming F t s (at + (a + n)) (drop (i + 1) fs)) p w (note_size F) c.written next (field_long F (entry_found f at a n)) noted-room h;
+            inside = noted_within;
+            written = written_more (coming F t s start fs) d o (coming F t s at (drop i fs)) (field_note F (entry_found f at a n)) (coming F t s (at + (a + n)) (drop (i + 1) fs)) p w (note_size F) c.written next (field_long F (entry_found f at a n)) noted_room h;
             room = omega (arith, c.room, left);
             used = c.used;
             accepted =

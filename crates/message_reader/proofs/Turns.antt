@@ -43,17 +43,17 @@ module _ {t : Table} {s fs : List ℕ} {start at i : ℕ} (c : Scanned t s fs st
     begins : read_fields t start fs (drop start s) ≡ read_fields t at (f ∷ drop (i + 1) fs) (drop at s)
     begins = c.whole ∙ ap (λ (l : List ℕ). read_fields t at l (drop at s)) k.here
 
-    pub scan-refused : {n : ℕ} → o ≡ FieldRefused n → Refused (refusal n f at) ≡ read_fields t start fs (drop start s)
-    scan-refused is = sym (begins ∙ fields_refused t at f (drop (i + 1) fs) (drop at s) _ (sym k.gives ∙ is))
+    pub scan_refused : {n : ℕ} → o ≡ FieldRefused n → Refused (refusal n f at) ≡ read_fields t start fs (drop start s)
+    scan_refused is = sym (begins ∙ fields_refused t at f (drop (i + 1) fs) (drop at s) _ (sym k.gives ∙ is))
 
     module _ {a n : ℕ} (is : o ≡ Content a n) where
-      pub scan-within : at + (a + n) ≤ length s
-      scan-within = omega (arith, read_within t f (drop at s) a n (sym k.gives ∙ is), length-drop at s, c.inside)
+      pub scan_within : at + (a + n) ≤ length s
+      scan_within = omega (arith, read_within t f (drop at s) a n (sym k.gives ∙ is), length-drop at s, c.inside)
 
-      pub scan-read : Scanned t s fs start (at + (a + n)) (i + 1)
-      scan-read =
+      pub scan_read : Scanned t s fs start (at + (a + n)) (i + 1)
+      scan_read =
           record {
-            inside = scan-within;
+            inside = scan_within;
             whole =
                 begins ∙ fields_read t at f (drop (i + 1) fs) (drop at s) a n (sym k.gives ∙ is)
                 ∙ ap (read_fields t (at + (a + n)) (drop (i + 1) fs)) (drop-drop (a + n) at s);

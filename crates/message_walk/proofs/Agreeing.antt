@@ -38,8 +38,8 @@ module _ (F : Form) (p q r : Fault) (else : (e : Entry) → (r e ≡ 0 → ⊥) 
     pub entries : passed F q m k last s ≡ passed F p m k last s
 
   module _ (m k last at : ℕ) (s : List ℕ) where
-    same-bad : (x f : ℕ) → judged F p m last s ≡ Refused x f → judged F q m last s ≡ Refused x f → Same m (suc k) last at s
-    same-bad x f i j =
+    same_bad : (x f : ℕ) → judged F p m last s ≡ Refused x f → judged F q m last s ≡ Refused x f → Same m (suc k) last at s
+    same_bad x f i j =
         record {
           end = ending_bad F q m k last at s x f j ∙ sym (ending_bad F p m k last at s x f i);
           entries = passed_bad F q m k last s x f j ∙ sym (passed_bad F p m k last s x f i);
@@ -61,10 +61,10 @@ module _ (F : Form) (p q r : Fault) (else : (e : Entry) → (r e ≡ 0 → ⊥) 
         }
 
     -- a fault that both find
-    same-fault : (f a n : ℕ) → note_at F s ≡ FieldNote f a n → number_allowed m last f ≡ true → is_marked F f s ≡ true → q (entry f a n) ≡ p (entry f a n)
+    same_fault : (f a n : ℕ) → note_at F s ≡ FieldNote f a n → number_allowed m last f ≡ true → is_marked F f s ≡ true → q (entry f a n) ≡ p (entry f a n)
         → (p (entry f a n) ≡ 0 → ⊥) → Same m (suc k) last at s
-    same-fault f a n e al y h z =
-        same-bad (p (entry f a n)) f
+    same_fault f a n e al y h z =
+        same_bad (p (entry f a n)) f
         (judged_note F p m last s f a n e ∙ found (is_marked F f s) p m last f a n al y z)
         (judged_note F q m last s f a n e ∙ found (is_marked F f s) q m last f a n al y (λ x. z (sym h ∙ x)) ∙ ap (λ (x : ℕ). Refused x f) h)
 
@@ -73,7 +73,7 @@ module _ (F : Form) (p q r : Fault) (else : (e : Entry) → (r e ≡ 0 → ⊥) 
   same_walk m zero last at s agree = record { end = refl; entries = refl }
   same_walk m (suc k) last at s agree =
       by_note (note_at F s)
-      (λ e. same-bad m k last at s note_malformed 0 (judged_malformed F p m last s e) (judged_malformed F q m last s e))
+      (λ e. same_bad m k last at s note_malformed 0 (judged_malformed F p m last s e) (judged_malformed F q m last s e))
       (λ u e. same_end m k last at s u (judged_end F p m last s u e) (judged_end F q m last s u e))
       (λ f a n e.
       let b = is_marked F f s in
@@ -90,10 +90,10 @@ module _ (F : Form) (p q r : Fault) (else : (e : Entry) → (r e ≡ 0 → ⊥) 
       (i ∙ passes b p m last f a n y (record { allowed = al; ruled = o }))
       (j ∙ passes b q m last f a n y (record { allowed = al; ruled = both.0 ∙ o }))
       (same_walk m k f (at + note_size F) (drop (note_size F) s) both.1))
-      (λ o. same-fault m k last at s f a n e al y both.0 o))
-      (λ z. same-fault m k last at s f a n e al y (else (entry f a n) z) (λ o. z (weaker (entry f a n) o))))
-      (λ y. same-bad m k last at s note_malformed 0 (i ∙ unmarked b p m last f a n al y) (j ∙ unmarked b q m last f a n al y)))
-      (λ al. same-bad m k last at s number_not_allowed f (i ∙ unnumbered b p m last f a n al) (j ∙ unnumbered b q m last f a n al)))
+      (λ o. same_fault m k last at s f a n e al y both.0 o))
+      (λ z. same_fault m k last at s f a n e al y (else (entry f a n) z) (λ o. z (weaker (entry f a n) o))))
+      (λ y. same_bad m k last at s note_malformed 0 (i ∙ unmarked b p m last f a n al y) (j ∙ unmarked b q m last f a n al y)))
+      (λ al. same_bad m k last at s number_not_allowed f (i ∙ unnumbered b p m last f a n al) (j ∙ unnumbered b q m last f a n al)))
 
 module _ (d : Dialect) (p q r : Fault) (else : (e : Entry) → (r e ≡ 0 → ⊥) → q e ≡ p e) (weaker : (e : Entry) → p e ≡ 0 → r e ≡ 0) (n : List ℕ)
     (agree : Agree p q (entries_in d r n)) where

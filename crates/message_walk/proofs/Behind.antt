@@ -111,8 +111,8 @@ module _ (d : Dialect) (apart : d.form.kind ≡ end_kind → ⊥) (marks : (f : 
     alike : Same F apart marks p r.count u small y z r.entries (length (notes y)) (length (notes z)) 0 head_size
     alike = same F apart marks p r.count u small y z r.entries fit (length (notes y)) (length (notes z)) 0 head_size (enough y) (enough z)
 
-    pub behind-walked : walked d p (notes_of F r u ++ y) ≡ walked d p (notes_of F r u ++ z)
-    behind-walked = walked_from y ∙ alike.end ∙ sym (walked_from z)
+    pub behind_walked : walked d p (notes_of F r u ++ y) ≡ walked d p (notes_of F r u ++ z)
+    behind_walked = walked_from y ∙ alike.end ∙ sym (walked_from z)
 
-    pub behind-entries : entries_in d p (notes_of F r u ++ y) ≡ entries_in d p (notes_of F r u ++ z)
-    behind-entries = entries_from y ∙ alike.entries ∙ sym (entries_from z)
+    pub behind_entries : entries_in d p (notes_of F r u ++ y) ≡ entries_in d p (notes_of F r u ++ z)
+    behind_entries = entries_from y ∙ alike.entries ∙ sym (entries_from z)

@@ -39,30 +39,30 @@ module _ (n : List ℕ) (flag : Bool) (headed : flag ≡ is_head n) where
   head_not h = rw (← headed, not-true flag h)
 
   module _ (good : not flag ≡ false) (k : ℕ) (counted : k ≡ count_in n) where
-    pub head-none : k < 1 → note_malformed ≡ head_number 3 n
+    pub head_none : k < 1 → note_malformed ≡ head_number 3 n
     unfolding head_number
-    head-none h = rw (← headed, not-false flag good, ← counted, below_low 1 3 k h)
+    head_none h = rw (← headed, not-false flag good, ← counted, below_low 1 3 k h)
 
     module _ (least : 1 ≤ k) where
-      pub head-many : 3 < k → note_malformed ≡ head_number 3 n
+      pub head_many : 3 < k → note_malformed ≡ head_number 3 n
       unfolding head_number
-      head-many h = rw (← headed, not-false flag good, ← counted, above_high 1 3 k least h)
+      head_many h = rw (← headed, not-false flag good, ← counted, above_high 1 3 k least h)
 
       module _ (few : k ≤ 3) (mti : List ℕ) (part : mti ≡ cond (leb head_size (length n)) (mti_in n) []) (flag2 : Bool) (digits : flag2 ≡ all is_digit mti) where
         long : leb head_size (length n) ≡ true
         unfolding is_head
         long = both_left (leb head_size (length n)) _ (tested_true flag (is_head n) headed good)
 
-        is-mti : flag2 ≡ all is_digit (mti_in n)
-        is-mti = digits ∙ ap (all is_digit) part ∙ ap (λ (b : Bool). all is_digit (cond b (mti_in n) [])) long
+        is_mti : flag2 ≡ all is_digit (mti_in n)
+        is_mti = digits ∙ ap (all is_digit) part ∙ ap (λ (b : Bool). all is_digit (cond b (mti_in n) [])) long
 
-        pub head-mti : not flag2 ≡ true → mti_not_digits ≡ head_number 3 n
+        pub head_mti : not flag2 ≡ true → mti_not_digits ≡ head_number 3 n
         unfolding head_number
-        head-mti t = rw (← headed, not-false flag good, ← counted, is_between 1 3 k least few, le-leb k 3 few, ← is-mti, not-true flag2 t)
+        head_mti t = rw (← headed, not-false flag good, ← counted, is_between 1 3 k least few, le-leb k 3 few, ← is_mti, not-true flag2 t)
 
         pub head_good : not flag2 ≡ false → 0 ≡ head_number 3 n
         unfolding head_number
-        head_good t = rw (← headed, not-false flag good, ← counted, is_between 1 3 k least few, le-leb k 3 few, ← is-mti, not-false flag2 t)
+        head_good t = rw (← headed, not-false flag good, ← counted, is_between 1 3 k least few, le-leb k 3 few, ← is_mti, not-false flag2 t)
 
 -- `is_number_allowed`
 module _ (m last f : ℕ) where
@@ -75,9 +75,9 @@ module _ (m last f : ℕ) where
     unfolding number_allowed
     no_number t = rw (lt-ltb last f above, ← tested, not-true flag t)
 
-    pub in-bitmaps : not flag ≡ false → ltb ((f - 1) / 64) m ≡ number_allowed m last f
+    pub in_bitmaps : not flag ≡ false → ltb ((f - 1) / 64) m ≡ number_allowed m last f
     unfolding number_allowed
-    in-bitmaps t =
+    in_bitmaps t =
         let l = field_low f (tested_true flag (is_field f) tested t) in
         rw (lt-ltb last f above, ← tested, not-false flag t)
         (by_le f (64 * m)

@@ -67,24 +67,24 @@ module _ {F : Form} {p : Fault} {n : List ℕ} {w : Walked} {P : List Entry → 
   turn_done {u} is = subst P (passed_end F p m k last (drop at n) u (here ∙ is)) holds_here
 
   module _ {f a z : ℕ} (is : o ≡ Passed f a z) where
-    pub turn-room : at + note_size F ≤ length n
-    turn-room = omega (arith, note_whole F (drop at n) f a z (passing F p m last (drop at n) f a z (here ∙ is)).note, length-drop at n, c.loop.inside)
+    pub turn_room : at + note_size F ≤ length n
+    turn_room = omega (arith, note_whole F (drop at n) f a z (passing F p m last (drop at n) f a z (here ∙ is)).note, length-drop at n, c.loop.inside)
 
-    pub turn-good : Good p m last f a z
-    turn-good = (passing F p m last (drop at n) f a z (here ∙ is)).good
+    pub turn_good : Good p m last f a z
+    turn_good = (passing F p m last (drop at n) f a z (here ∙ is)).good
 
-    pub turn-here : P (entry f a z ∷ passed F p m k f (drop (at + note_size F) n))
-    turn-here =
+    pub turn_here : P (entry f a z ∷ passed F p m k f (drop (at + note_size F) n))
+    turn_here =
         subst P
         (passed_more F p m k last (drop at n) f a z (here ∙ is) ∙ ap (λ (q : List ℕ). entry f a z ∷ passed F p m k f q) (drop-drop (note_size F) at n))
         holds_here
 
-    pub turn-next : {Q : List Entry → Type 0} → Q (passed F p m k f (drop (at + note_size F) n)) → Walking F p n w Q (at + note_size F) f
-    turn-next q =
+    pub turn_next : {Q : List Entry → Type 0} → Q (passed F p m k f (drop (at + note_size F) n)) → Walking F p n w Q (at + note_size F) f
+    turn_next q =
         record {
           fuel = k;
-          inside = turn-room;
-          left = omega (arith, turn-room, c.loop.left);
+          inside = turn_room;
+          left = omega (arith, turn_room, c.loop.left);
           ends =
               ends_here
               ∙ ending_more F p m k last at (drop at n) f a z (here ∙ is)
@@ -125,8 +125,8 @@ module _ {F : Form} {n : List ℕ} {P : List Entry → Type 0} {at : ℕ} {o : N
   read_end {u} is = subst P (listed_end F j (drop at n) u (is_note ∙ is)) holds_there
 
   module _ {f a z : ℕ} (is : o ≡ FieldNote f a z) where
-    pub read-room : at + note_size F ≤ length n
-    read-room = omega (arith, note_whole F (drop at n) f a z (is_note ∙ is), length-drop at n, c.loop.inside)
+    pub read_room : at + note_size F ≤ length n
+    read_room = omega (arith, note_whole F (drop at n) f a z (is_note ∙ is), length-drop at n, c.loop.inside)
 
     pub read_here : P (entry f a z ∷ listed_from F j (drop (at + note_size F) n))
     read_here =
@@ -135,4 +135,4 @@ module _ {F : Form} {n : List ℕ} {P : List Entry → Type 0} {at : ℕ} {o : N
         holds_there
 
     pub read_next : {Q : List Entry → Type 0} → Q (listed_from F j (drop (at + note_size F) n)) → Reading F n Q (at + note_size F)
-    read_next q = record { fuel = j; inside = read-room; left = omega (arith, read-room, c.loop.left); holds = q }
+    read_next q = record { fuel = j; inside = read_room; left = omega (arith, read_room, c.loop.left); holds = q }

@@ -65,10 +65,10 @@ module _ (d : Dialect) (p : Fault) (n : List ℕ) (x u : ℕ) (e : walked d p n 
   walked_listed = (alike d.form p p (λ y z. z) (count_in n) (length n) 0 head_size (drop head_size n) x u rest).listed
 
   module _ (q : Fault) (weaker : (y : Entry) → p y ≡ 0 → q y ≡ 0) where
-    pub weaker-walked : walked d q n ≡ Ended x u
+    pub weaker_walked : walked d q n ≡ Ended x u
     unfolding walked
-    weaker-walked = rw (eq-eqb (head_number d.most n) 0 good) (alike d.form p q weaker (count_in n) (length n) 0 head_size (drop head_size n) x u rest).end
+    weaker_walked = rw (eq-eqb (head_number d.most n) 0 good) (alike d.form p q weaker (count_in n) (length n) 0 head_size (drop head_size n) x u rest).end
 
-    pub weaker-entries : entries_in d q n ≡ entries_in d p n
+    pub weaker_entries : entries_in d q n ≡ entries_in d p n
     unfolding entries_in
-    weaker-entries = (alike d.form p q weaker (count_in n) (length n) 0 head_size (drop head_size n) x u rest).same
+    weaker_entries = (alike d.form p q weaker (count_in n) (length n) 0 head_size (drop head_size n) x u rest).same

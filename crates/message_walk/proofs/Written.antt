@@ -135,10 +135,10 @@ module _ (F : Form) (r : Reading) (u : ℕ) (z : List ℕ) (four : length r.mti 
         walks F apart marks p r.count u z small w fit (length notes) head_size
         (omega (arith, long, le-mul_of_pos_right {m = note_size F} (length r.entries) (omega arith), mul_comm (length r.entries) (note_size F)))
 
-    pub written-walked : walked d p notes ≡ Ended (head_size + note_size F * length r.entries) u
+    pub written_walked : walked d p notes ≡ Ended (head_size + note_size F * length r.entries) u
     unfolding walked
-    written-walked = rw (eq-eqb (head_number d.most notes) 0 (head_good d.most few), count_in_lem, from_head, formed) whole.end
+    written_walked = rw (eq-eqb (head_number d.most notes) 0 (head_good d.most few), count_in_lem, from_head, formed) whole.end
 
-    pub written-entries : entries_in d p notes ≡ r.entries
+    pub written_entries : entries_in d p notes ≡ r.entries
     unfolding entries_in
-    written-entries = rw (count_in_lem, from_head, formed) whole.all
+    written_entries = rw (count_in_lem, from_head, formed) whole.all

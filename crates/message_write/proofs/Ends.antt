@@ -36,7 +36,7 @@ use Rattle.message_walk.specs.Faults.{asked, within, fault_by}
 use Rattle.message_walk.proofs.Ends.{walk_head, walk_ended}
 use Rattle.message_walk.proofs.Heads.{Head, ended_head, good_head}
 use Rattle.message_walk.proofs.Naming.{AllGood, entries_good}
-use Rattle.message_walk.proofs.Weaker.{walked_listed, weaker-entries}
+use Rattle.message_walk.proofs.Weaker.{walked_listed, weaker_entries}
 use Rattle.message_walk.proofs.Within.{is_inside, within_weaker}
 use Rattle.message_write.specs.Written.{exactly, cleanly, exact_message, clean_message, answered, laid_out, exact_answer, exact_output, clean_answer, clean_output, padded_on, clean_padded, body_of, message_of, entries_by, answer_by, output_by, padded_by, size_in, short_on, size_on}
 use Rattle.message_write.proofs.Writing.{body_size, cleared}
@@ -99,21 +99,21 @@ module _ (at u : ℕ) (bytes d : List ℕ) (k : ℕ) (sized : length bytes ≡ k
   differs_left h = rw (sized, ne_eqb u k h)
 
   module _ (same : u ≡ k) where
-    pub ended-short : length d < k → Refused (refusal output_too_short 0 at) ≡ answered (Ended at u) bytes d
+    pub ended_short : length d < k → Refused (refusal output_too_short 0 at) ≡ answered (Ended at u) bytes d
     unfolding answered
-    ended-short h = rw (sized, eq-eqb u k same, lt-leb k (length d) h)
+    ended_short h = rw (sized, eq-eqb u k same, lt-leb k (length d) h)
 
-    pub short-left : length d < k → d ≡ laid_out (Ended at u) bytes d
+    pub short_left : length d < k → d ≡ laid_out (Ended at u) bytes d
     unfolding laid_out
-    short-left h = rw (sized, eq-eqb u k same) (placed_short bytes d k sized h)
+    short_left h = rw (sized, eq-eqb u k same) (placed_short bytes d k sized h)
 
-    pub ended-written : k ≤ length d → Written k ≡ answered (Ended at u) bytes d
+    pub ended_written : k ≤ length d → Written k ≡ answered (Ended at u) bytes d
     unfolding answered
-    ended-written h = rw (sized, eq-eqb u k same, le-leb k (length d) h)
+    ended_written h = rw (sized, eq-eqb u k same, le-leb k (length d) h)
 
-    pub written-laid : (o : List ℕ) → k ≤ length d → o ≡ lay bytes d → o ≡ laid_out (Ended at u) bytes d
+    pub written_laid : (o : List ℕ) → k ≤ length d → o ≡ lay bytes d → o ≡ laid_out (Ended at u) bytes d
     unfolding laid_out
-    written-laid o h e = rw (sized, eq-eqb u k same) (e ∙ sym (placed_fits bytes d k sized h))
+    written_laid o h e = rw (sized, eq-eqb u k same) (e ∙ sym (placed_fits bytes d k sized h))
 
 -- what `write_ended` and `write_message` are asked of the values v and the notes n: a good head, contents that may be written, and the set of
 -- the fields that the notes name
@@ -151,14 +151,14 @@ module _ (t : Table) (v n s : List ℕ) (asked : Asked t v n s) where
         rw (made, asked.named, least, all)
 
     -- d is the output before; it is e once the MTI is written, and f and g are its rests once the bitmaps and the fields are written there
-    pub message-written :
+    pub message_written :
         (d e f g : List ℕ) →
         length (message_of t v (mti_in n) m es) ≤ length d →
         e ≡ placed mti d →
         f ≡ placed (take (8 * k - 0) maps) (mid_of 4 (length e - 4) e) →
         g ≡ lay (body_of t v es) (mid_of (4 + 8 * k) (length (put_mid 4 (length e - 4) e f) - (4 + 8 * k)) (put_mid 4 (length e - 4) e f)) →
         put_mid (4 + 8 * k) (length (put_mid 4 (length e - 4) e f) - (4 + 8 * k)) (put_mid 4 (length e - 4) e f) g ≡ lay (message_of t v (mti_in n) m es) d
-    message-written d e f g room he hf hg =
+    message_written d e f g room he hf hg =
         let four = asked_head.four in
         let b = bitmaps_with m (numbers_of es) in
         let long = bitmaps_long m (numbers_of es) asked_head.three in
@@ -171,17 +171,17 @@ module _ (t : Table) (v n s : List ℕ) (asked : Asked t v n s) where
 -- `write_by`: w is how the walk ended, s, q and size are what it gathered
 module _ (t : Table) (r : Rule) (v n : List ℕ) (w : Walked) (e : w ≡ walked (dialect t) (fault_by t v r) n) where
   module _ (d : List ℕ) (x : Refusal) (h : w ≡ WalkRefused x) where
-    pub by-refused : Refused x ≡ answer_by t v r n d
+    pub by_refused : Refused x ≡ answer_by t v r n d
     unfolding answer_by answered
-    by-refused = rw (answer_by, ← e, h)
+    by_refused = rw (answer_by, ← e, h)
 
-    pub refused-left : d ≡ output_by t v r n d
+    pub refused_left : d ≡ output_by t v r n d
     unfolding output_by laid_out
-    refused-left = rw (output_by, ← e, h)
+    refused_left = rw (output_by, ← e, h)
 
-    pub refused-padded : no_fields ≡ padded_by t v r n d
+    pub refused_padded : no_fields ≡ padded_by t v r n d
     unfolding padded_by
-    refused-padded = padded_none (answer_by t v r n d) _ x (sym by-refused)
+    refused_padded = padded_none (answer_by t v r n d) _ x (sym by_refused)
 
   module _ (at u : ℕ) (h : w ≡ Ended at u) where
     ended : walked (dialect t) (fault_by t v r) n ≡ Ended at u
@@ -191,16 +191,16 @@ module _ (t : Table) (r : Rule) (v n : List ℕ) (w : Walked) (e : w ≡ walked 
     unfolding entries_by
     listed = walked_listed (dialect t) (fault_by t v r) n at u ended
 
-    clean-listed : ((f : ℕ) (c : List ℕ) → asked t r f c ≡ 0 → asked t Clean f c ≡ 0) → listed_in plain_form n ≡ entries_by t v Clean n
+    clean_listed : ((f : ℕ) (c : List ℕ) → asked t r f c ≡ 0 → asked t Clean f c ≡ 0) → listed_in plain_form n ≡ entries_by t v Clean n
     unfolding entries_by fault_by
-    clean-listed weaker = listed ∙ sym (weaker-entries (dialect t) (fault_by t v r) n at u ended (fault_by t v Clean) (within_weaker v (asked t r) (asked t Clean) weaker))
+    clean_listed weaker = listed ∙ sym (weaker_entries (dialect t) (fault_by t v r) n at u ended (fault_by t v Clean) (within_weaker v (asked t r) (asked t Clean) weaker))
 
-    pub by-asked : ((f : ℕ) (c : List ℕ) → asked t r f c ≡ 0 → asked t Clean f c ≡ 0) → (s : List ℕ) → s ≡ fields_on w (entries_by t v r n) → Asked t v n s
+    pub by_asked : ((f : ℕ) (c : List ℕ) → asked t r f c ≡ 0 → asked t Clean f c ≡ 0) → (s : List ℕ) → s ≡ fields_on w (entries_by t v r n) → Asked t v n s
     unfolding fields_on
-    by-asked weaker s i =
+    by_asked weaker s i =
         record {
           head = ended_head (dialect t) (fault_by t v r) n at u ended;
-          clean = clean-listed weaker;
+          clean = clean_listed weaker;
           named = i ∙ ap (λ (x : Walked). fields_on x (entries_by t v r n)) h ∙ ap (λ (x : List Entry). set_of (numbers_of x)) (sym listed);
         }
 
@@ -208,17 +208,17 @@ module _ (t : Table) (r : Rule) (v n : List ℕ) (w : Walked) (e : w ≡ walked 
     unfolding size_on
     by_size size i = i ∙ ap (λ (x : Walked). size_on x t (entries_by t v r n)) h ∙ ap (size_in t) (sym listed)
 
-    pub by-answered : (d : List ℕ) (o : Output) → o ≡ answered (Ended at u) (message_of t v (mti_in n) (count_in n) (listed_in plain_form n)) d → o ≡ answer_by t v r n d
+    pub by_answered : (d : List ℕ) (o : Output) → o ≡ answered (Ended at u) (message_of t v (mti_in n) (count_in n) (listed_in plain_form n)) d → o ≡ answer_by t v r n d
     unfolding answer_by
-    by-answered d o a = a ∙ rw (answer_by, ended, listed)
+    by_answered d o a = a ∙ rw (answer_by, ended, listed)
 
-    pub by-laid : (d o : List ℕ) → o ≡ laid_out (Ended at u) (message_of t v (mti_in n) (count_in n) (listed_in plain_form n)) d → o ≡ output_by t v r n d
+    pub by_laid : (d o : List ℕ) → o ≡ laid_out (Ended at u) (message_of t v (mti_in n) (count_in n) (listed_in plain_form n)) d → o ≡ output_by t v r n d
     unfolding output_by
-    by-laid d o a = a ∙ rw (output_by, ended, listed)
+    by_laid d o a = a ∙ rw (output_by, ended, listed)
 
-    pub by-padded : (d s q : List ℕ) (o : Output) → o ≡ answer_by t v r n d → s ≡ short_on w t (entries_by t v r n) → q ≡ padded_on o s → q ≡ padded_by t v r n d
+    pub by_padded : (d s q : List ℕ) (o : Output) → o ≡ answer_by t v r n d → s ≡ short_on w t (entries_by t v r n) → q ≡ padded_on o s → q ≡ padded_by t v r n d
     unfolding padded_by short_on
-    by-padded d s q o a i j =
+    by_padded d s q o a i j =
         j ∙ ap (padded_on o) (i ∙ ap (λ (x : Walked). short_on x t (entries_by t v r n)) h) ∙ ap (λ (x : Output). padded_on x (set_of (short_in t (entries_by t v r n)))) a
 
 -- `write_clean`: the numbers that it lends stand for another table

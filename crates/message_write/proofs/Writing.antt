@@ -71,31 +71,31 @@ module _ {t : Table} {v : List ℕ} {m : ℕ} {whole : List Entry} {d : List ℕ
   writing_first a = record { good = a; written = written_none (body_of t v whole) d }
 
   module _ {o : List ℕ} {w : ℕ} where
-    pub writing-done : Writing t v m whole d o w [] → o ≡ lay (body_of t v whole) d
+    pub writing_done : Writing t v m whole d o w [] → o ≡ lay (body_of t v whole) d
     unfolding body_of
-    writing-done c = (written_end (body_of t v whole) d o (body_of t v []) w c.written (body_none t v)).1
+    writing_done c = (written_end (body_of t v whole) d o (body_of t v []) w c.written (body_none t v)).1
 
     module _ (small : Bounded t) {f a z : ℕ} {es : List Entry} (c : Writing t v m whole d o w (entry f a z ∷ es)) where
-      pub writing-taken : Taken t v f a z
+      pub writing_taken : Taken t v f a z
       unfolding AllGood
-      writing-taken = is_taken t v f a z c.good.0.1.ruled
+      writing_taken = is_taken t v f a z c.good.0.1.ruled
 
       abbrev bytes : List ℕ
       bytes = field_bytes t f (content_of v a z)
 
       more : body_of t v (entry f a z ∷ es) ≡ bytes ++ body_of t v es
       unfolding body_of
-      more = body_more t v f a z es writing-taken.clean
+      more = body_more t v f a z es writing_taken.clean
 
       module _ {size : ℕ} (sized : size ≡ taken t f z) (room : length (body_of t v whole) ≤ length d) where
-        pub writing-fits : w + size ≤ length o
-        writing-fits =
+        pub writing_fits : w + size ≤ length o
+        writing_fits =
             omega (
               arith,
               written_room (body_of t v whole) d o (body_of t v (entry f a z ∷ es)) w c.written,
               ap length more,
               length-append bytes (body_of t v es),
-              taken_size small writing-taken,
+              taken_size small writing_taken,
               sized,
               c.written.size,
               room,
@@ -109,8 +109,8 @@ module _ {t : Table} {v : List ℕ} {m : ℕ} {whole : List Entry} {d : List ℕ
               good = c.good.1;
               written =
                   written_more (body_of t v whole) d o (body_of t v (entry f a z ∷ es)) bytes (body_of t v es) q w size c.written more
-                  (taken_size small writing-taken ∙ sym sized) writing-fits
+                  (taken_size small writing_taken ∙ sym sized) writing_fits
                   (h
                   ∙ ap (λ (x : ℕ). field_into t f (take x (drop a v)) (mid_of w (length o - w) o)) (add-sub_cancel_left a z)
-                  ∙ into_fits t f (content_of v a z) (mid_of w (length o - w) o) (clean_passed t f (content_of v a z) writing-taken.clean).most);
+                  ∙ into_fits t f (content_of v a z) (mid_of w (length o - w) o) (clean_passed t f (content_of v a z) writing_taken.clean).most);
             }

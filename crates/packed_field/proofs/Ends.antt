@@ -98,13 +98,13 @@ module _ (c : Class) (flag : Bool) (tested : flag ≡ is_numeric c) where
   content_numeric S n s r t e = rw (← tested, t) e
 
   module _ (other : flag ≡ false) (binary : Bool) (asked : binary ≡ is_binary c) where
-    pub content-binary : (S : Script) (n : ℕ) (s : List ℕ) → binary ≡ true → true ≡ is_content S c n s
+    pub content_binary : (S : Script) (n : ℕ) (s : List ℕ) → binary ≡ true → true ≡ is_content S c n s
     unfolding is_content
-    content-binary S n s t = rw (← tested, other, ← asked, t)
+    content_binary S n s t = rw (← tested, other, ← asked, t)
 
-    pub content-text : (S : Script) (n : ℕ) (s : List ℕ) (r : Bool) → binary ≡ false → r ≡ all is_ascii s → r ≡ is_content S c n s
+    pub content_text : (S : Script) (n : ℕ) (s : List ℕ) (r : Bool) → binary ≡ false → r ≡ all is_ascii s → r ≡ is_content S c n s
     unfolding is_content
-    content-text S n s r t e = rw (← tested, other, ← asked, t) e
+    content_text S n s r t e = rw (← tested, other, ← asked, t) e
 
 -- `place_by`
 module _ (S : Script) (w m : ℕ) (c : Class) (s : List ℕ) (a : ℕ) (sized : a ≡ size_of S w) where
@@ -113,19 +113,19 @@ module _ (S : Script) (w m : ℕ) (c : Class) (s : List ℕ) (a : ℕ) (sized : 
   place_cut h = rw (← sized, lt-ltb (length s) a h)
 
   module _ (whole : a ≤ length s) (flag : Bool) (tested : flag ≡ is_spelt S w (take a s)) where
-    pub place-no-digit : (x : ℕ) → not flag ≡ true → x ≡ length_fault S → Refused x ≡ place_by S w m c s
+    pub place_no_digit : (x : ℕ) → not flag ≡ true → x ≡ length_fault S → Refused x ≡ place_by S w m c s
     unfolding place_by
-    place-no-digit x t e = rw (← sized, le-ltb (length s) a whole, ← tested, not-true flag t) (ap Refused e)
+    place_no_digit x t e = rw (← sized, le-ltb (length s) a whole, ← tested, not-true flag t) (ap Refused e)
 
     module _ (digits : not flag ≡ false) (n : ℕ) (is_n : n ≡ length_of w m (digits_of S w (take a s))) where
-      pub place-long : m < n → Refused length_over_table ≡ place_by S w m c s
+      pub place_long : m < n → Refused length_over_table ≡ place_by S w m c s
       unfolding place_by place_sized
-      place-long h = rw (← sized, le-ltb (length s) a whole, ← tested, not-false flag digits, ← is_n, lt-ltb m n h)
+      place_long h = rw (← sized, le-ltb (length s) a whole, ← tested, not-false flag digits, ← is_n, lt-ltb m n h)
 
       module _ (short : n ≤ m) (k : ℕ) (is-k : k ≡ content_size S c n) where
-        pub place-past : length s - a < k → Refused past_the_end ≡ place_by S w m c s
+        pub place_past : length s - a < k → Refused past_the_end ≡ place_by S w m c s
         unfolding place_by place_sized
-        place-past h = rw (← sized, le-ltb (length s) a whole, ← tested, not-false flag digits, ← is_n, le-ltb m n short, ← is-k, lt-ltb (length s - a) k h)
+        place_past h = rw (← sized, le-ltb (length s) a whole, ← tested, not-false flag digits, ← is_n, le-ltb m n short, ← is-k, lt-ltb (length s - a) k h)
 
         module _ (x : Script) (across : x ≡ other S) (p q : ℕ) (is-p : p ≡ size_of x w) (is-q : q ≡ content_size x c n) where
           pub place_found : k ≤ length s - a → Found a n k (p + q) ≡ place_by S w m c s
@@ -159,13 +159,13 @@ module _ (S : Script) (t : Table) (f : ℕ) (s : List ℕ) (i : Item) (placed : 
   judge_refused n e = rw (sym placed ∙ e)
 
   module _ (a n k j : ℕ) (is : i ≡ Found a n k j) (c : Class) (classed : c ≡ t.class f) (flag : Bool) (tested : flag ≡ is_content S c n (take (a + k - a) (drop a s))) where
-    tested-there : flag ≡ is_content S (t.class f) n (take k (drop a s))
-    tested-there = tested ∙ rw (add-sub_cancel_left a k, classed)
+    tested_there : flag ≡ is_content S (t.class f) n (take k (drop a s))
+    tested_there = tested ∙ rw (add-sub_cancel_left a k, classed)
 
-    pub judge-bad : (x : ℕ) → not flag ≡ true → x ≡ content_fault S c → Refused x ≡ judge_item S t f s
+    pub judge_bad : (x : ℕ) → not flag ≡ true → x ≡ content_fault S c → Refused x ≡ judge_item S t f s
     unfolding judge_item
-    judge-bad x h e = rw (sym placed ∙ is, ← tested-there, not-true flag h, ← classed) (ap Refused e)
+    judge_bad x h e = rw (sym placed ∙ is, ← tested_there, not-true flag h, ← classed) (ap Refused e)
 
-    pub judge-good : not flag ≡ false → Found a n k j ≡ judge_item S t f s
+    pub judge_good : not flag ≡ false → Found a n k j ≡ judge_item S t f s
     unfolding judge_item
-    judge-good h = rw (sym placed ∙ is, ← tested-there, not-false flag h)
+    judge_good h = rw (sym placed ∙ is, ← tested_there, not-false flag h)

@@ -17,7 +17,7 @@ use Rattle.packed_field.specs.Items.{place_item, judge_item}
 use Rattle.packed_link.specs.declared.Judged.TheVariants.{Good}
 use Rattle.packed_link.specs.Link.{item_carried, fields_judged, fields_carried}
 use Rattle.packed_link.proofs.Items.{item_within, item_long}
-use Rattle.packed_link.proofs.Fields.{fields-good, carried_refused, carried_good, first_placed}
+use Rattle.packed_link.proofs.Fields.{fields_good, carried_refused, carried_good, first_placed}
 use Rattle.packed_link.proofs.Turns.{Met, met}
 
 -- those of the list that are still to be written, from the place at on
@@ -56,16 +56,16 @@ module _ {S : Script} {cs s fs : List ℕ} {start : ℕ} {d o : List ℕ} {at w 
       met S cs s fs at i f _ low e (r ∙ first_placed S (decoded cs) at c.before f (drop (i + 1) fs) (take (length s - at) (drop at s)) c.used c.size all)
 
   module _ {f : ℕ} {x : Item} (k : Met S cs s fs at i f x) where
-    pub carrying-refused : {n : ℕ} → x ≡ ItemRefused n → o ≡ lay (coming S cs s start fs) d
-    carrying-refused is = carrying_done (rw k.here (carried_refused S (decoded cs) f (drop (i + 1) fs) (drop at s) _ (sym k.gives ∙ is)))
+    pub carrying_refused : {n : ℕ} → x ≡ ItemRefused n → o ≡ lay (coming S cs s start fs) d
+    carrying_refused is = carrying_done (rw k.here (carried_refused S (decoded cs) f (drop (i + 1) fs) (drop at s) _ (sym k.gives ∙ is)))
 
     module _ {a n l j : ℕ} (is : x ≡ Found a n l j) where
       judged : judge_item S (decoded cs) f (drop at s) ≡ Found a n l j
       judged = sym k.gives ∙ is
 
       -- as the code has the rest
-      pub carrying-judged : judge_item S (decoded cs) f (take (length s - at) (drop at s)) ≡ Found a n l j
-      carrying-judged = ap (judge_item S (decoded cs) f) (to_end at s) ∙ judged
+      pub carrying_judged : judge_item S (decoded cs) f (take (length s - at) (drop at s)) ≡ Found a n l j
+      carrying_judged = ap (judge_item S (decoded cs) f) (to_end at s) ∙ judged
 
       abbrev here : List ℕ
       here = item_carried S (decoded cs) f a n l (drop at s)
@@ -73,38 +73,38 @@ module _ {S : Script} {cs s fs : List ℕ} {start : ℕ} {d o : List ℕ} {at w 
       abbrev after : List ℕ
       after = coming S cs s (at + (a + l)) (drop (i + 1) fs)
 
-      pub carrying-within : at + (a + l) ≤ length s
-      carrying-within = omega (arith, item_within S (decoded cs) f (drop at s) a n l j judged, length-drop at s, c.inside)
+      pub carrying_within : at + (a + l) ≤ length s
+      carrying_within = omega (arith, item_within S (decoded cs) f (drop at s) a n l j judged, length-drop at s, c.inside)
 
       next : coming S cs s at (drop i fs) ≡ here ++ after
       next = rw (k.here, carried_good S (decoded cs) f (drop (i + 1) fs) (drop at s) a n l j judged, drop-drop (a + l) at s)
 
-      here-long : length here ≡ j
-      here-long = item_long S (decoded cs) f (drop at s) a n l j judged
+      here_long : length here ≡ j
+      here_long = item_long S (decoded cs) f (drop at s) a n l j judged
 
-      pub carrying-room : w + j ≤ length o
-      carrying-room =
-          omega (arith, written_room (coming S cs s start fs) d o (coming S cs s at (drop i fs)) w c.written, ap length next ∙ length-append here after, here-long, c.room, c.written.size)
+      pub carrying_room : w + j ≤ length o
+      carrying_room =
+          omega (arith, written_room (coming S cs s start fs) d o (coming S cs s at (drop i fs)) w c.written, ap length next ∙ length-append here after, here_long, c.room, c.written.size)
 
-      pub carrying-part : j ≤ length (mid_of w (length o - w) o)
-      carrying-part = omega (arith, carrying-room, ap length (part_rest w o) ∙ length-drop w o)
+      pub carrying_part : j ≤ length (mid_of w (length o - w) o)
+      carrying_part = omega (arith, carrying_room, ap length (part_rest w o) ∙ length-drop w o)
 
-      pub carrying-good : {p : List ℕ} → p ≡ lay (item_carried S (decoded cs) f a n l (take (length s - at) (drop at s))) (mid_of w (length o - w) o)
+      pub carrying_good : {p : List ℕ} → p ≡ lay (item_carried S (decoded cs) f a n l (take (length s - at) (drop at s))) (mid_of w (length o - w) o)
           → Carrying S cs s fs start d (put_mid w (length o - w) o p) (at + (a + l)) (w + j) (i + 1)
-      carrying-good {p} h =
+      carrying_good {p} h =
           let q : p ≡ placed here (mid_of w (length o - w) o) =
           h ∙ ap (λ (y : List ℕ). lay (item_carried S (decoded cs) f a n l y) (mid_of w (length o - w) o)) (to_end at s)
-          ∙ sym (placed_fits here (mid_of w (length o - w) o) j here-long carrying-part) in
+          ∙ sym (placed_fits here (mid_of w (length o - w) o) j here_long carrying_part) in
           record {
-            inside = carrying-within;
-            written = written_more (coming S cs s start fs) d o (coming S cs s at (drop i fs)) here after p w j c.written next here-long carrying-room q;
+            inside = carrying_within;
+            written = written_more (coming S cs s start fs) d o (coming S cs s at (drop i fs)) here after p w j c.written next here_long carrying_room q;
             room = c.room;
             before = c.before + j;
             used = c.used;
             size = c.size;
             accepted =
                 ap (fields_judged S (decoded cs) (at + (a + l)) (c.before + j) (drop (i + 1) fs)) (sym (drop-drop (a + l) at s))
-                ∙ sym (fields-good S (decoded cs) f (drop (i + 1) fs) (drop at s) a n l j judged at c.before)
+                ∙ sym (fields_good S (decoded cs) f (drop (i + 1) fs) (drop at s) a n l j judged at c.before)
                 ∙ ap (λ (y : List ℕ). fields_judged S (decoded cs) at c.before y (drop at s)) (sym k.here)
                 ∙ c.accepted;
           }

@@ -27,9 +27,9 @@ module _ (S : Script) (t : Table) (f : ℕ) (fs s : List ℕ) where
   carried_refused n e = rw (fields_carried, e)
 
   module _ (a n k j : ℕ) (e : judge_item S t f s ≡ Found a n k j) where
-    pub fields-good : (at w : ℕ) → fields_judged S t at w (f ∷ fs) s ≡ fields_judged S t (at + (a + k)) (w + j) fs (drop (a + k) s)
+    pub fields_good : (at w : ℕ) → fields_judged S t at w (f ∷ fs) s ≡ fields_judged S t (at + (a + k)) (w + j) fs (drop (a + k) s)
     unfolding fields_judged
-    fields-good at w = rw (fields_judged, e)
+    fields_good at w = rw (fields_judged, e)
 
     pub carried_good : fields_carried S t (f ∷ fs) s ≡ item_carried S t f a n k s ++ fields_carried S t fs (drop (a + k) s)
     unfolding fields_carried
@@ -57,6 +57,6 @@ carried_counted S t at w (f ∷ fs) s u v e =
     by_item (judge_item S t f s)
     (λ n r. absurd (never _ u v n f at (fields_refused S t f fs s at w n r) e))
     (λ a n k j r.
-    let h = carried_counted S t (at + (a + k)) (w + j) fs (drop (a + k) s) u v (sym (fields-good S t f fs s a n k j r at w) ∙ e) in
+    let h = carried_counted S t (at + (a + k)) (w + j) fs (drop (a + k) s) u v (sym (fields_good S t f fs s a n k j r at w) ∙ e) in
     let l = ap length (carried_good S t f fs s a n k j r) ∙ length-append (item_carried S t f a n k s) (fields_carried S t fs (drop (a + k) s)) in
     omega (arith, h, l, item_long S t f s a n k j r))

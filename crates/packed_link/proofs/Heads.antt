@@ -43,13 +43,13 @@ module _ (S : Script) (m : ℕ) (s : List ℕ) (a : ℕ) (sized : a ≡ size_of 
   head_short h = rw (← sized, lt-ltb (length s) (a + 8) h)
 
   module _ (long : a + 8 ≤ length s) (n : ℕ) (is : n ≡ lead (is_part S) (take a s)) where
-    pub head-no-digit : (x : ℕ) → n < a → x ≡ mti_fault S → Refused (refusal x 0 n) ≡ link_head S m s
+    pub head_no_digit : (x : ℕ) → n < a → x ≡ mti_fault S → Refused (refusal x 0 n) ≡ link_head S m s
     unfolding link_head
-    head-no-digit x h e = rw (← sized, le-ltb (length s) (a + 8) long, ← is, lt-ltb n a h) (ap (λ (y : ℕ). Refused (refusal y 0 n)) e)
+    head_no_digit x h e = rw (← sized, le-ltb (length s) (a + 8) long, ← is, lt-ltb n a h) (ap (λ (y : ℕ). Refused (refusal y 0 n)) e)
 
-    pub head-maps : (r : BitmapsRead) → a ≤ n → r ≡ bitmaps_read a m s → r ≡ link_head S m s
+    pub head_maps : (r : BitmapsRead) → a ≤ n → r ≡ bitmaps_read a m s → r ≡ link_head S m s
     unfolding link_head
-    head-maps r h e = rw (← sized, le-ltb (length s) (a + 8) long, ← is, le-ltb n a h) e
+    head_maps r h e = rw (← sized, le-ltb (length s) (a + 8) long, ← is, le-ltb n a h) e
 
 -- bytes of which each holds digits are an MTI exactly when there are as many as four digits take
 all_parts : (S : Script) (x : List ℕ) → length x ≡ size_of S 4 → all (is_part S) x ≡ true → is_spelt S 4 x ≡ true
@@ -96,18 +96,18 @@ module _ (S : Script) (m : ℕ) (s : List ℕ) (k : ℕ) where
       let long : a + 8 ≤ length s = omega (arith, h.maps.long, maps_least a m s k h.maps) in
       let l : length x ≡ a = length-take-le a s (omega arith) in
       let w : lead (is_part S) x ≡ length x = eqb-true (lead (is_part S) x) (length x) (lead_all (is_part S) x ∙ parts_all S x h.mti) in
-      sym (head-maps S m s a refl long (lead (is_part S) x) refl (Count k) (omega arith) (sym (maps_read a m s k h.maps)))
+      sym (head_maps S m s a refl long (lead (is_part S) x) refl (Count k) (omega arith) (sym (maps_read a m s k h.maps)))
 
   -- what a head that is read says of its bitmaps
   module _ (least : 2 ≤ m) (e : link_head S m s ≡ Count k) where
     pub head_few : k ≤ m
     head_few = (head_found least e).maps.few
 
-    pub head-room : a + 8 * k ≤ length s
-    head-room = (head_found least e).maps.long
+    pub head_room : a + 8 * k ≤ length s
+    head_room = (head_found least e).maps.long
 
-    pub head-mti : is_spelt S 4 x ≡ true
-    head-mti = (head_found least e).mti
+    pub head_mti : is_spelt S 4 x ≡ true
+    head_mti = (head_found least e).mti
 
 -- the fields that the code has listed are those of the bitmaps
 module _ (s : List ℕ) (a k n : ℕ) (numbers d : List ℕ) (counted : n ≡ length (fields_of (take (a + 8 * k - a) (drop a s)) 3)) (listed : numbers ≡ lay (fields_of (take (a + 8 * k - a) (drop a s)) 3) d) where

@@ -31,41 +31,41 @@ module _ (S : Script) (c : Class) (n : ℕ) (x : List ℕ) (good : is_content S 
     unfolding is_content
     spelt = rw y at good
 
-    numeric-is : content_carried S c n x ≡ carried S n x
+    numeric_is : content_carried S c n x ≡ carried S n x
     unfolding content_carried
-    numeric-is = rw y
+    numeric_is = rw y
 
-    numeric-size : content_size (other S) c n ≡ size_of (other S) n
+    numeric_size : content_size (other S) c n ≡ size_of (other S) n
     unfolding content_size
-    numeric-size = rw y
+    numeric_size = rw y
 
   module _ (z : is_numeric c ≡ false) where
     as_is : content_carried S c n x ≡ x
     unfolding content_carried
     as_is = rw z
 
-    as-is-size : length x ≡ content_size (other S) c n
+    as_is_size : length x ≡ content_size (other S) c n
     unfolding content_size
-    as-is-size = sized ∙ rw z
+    as_is_size = sized ∙ rw z
 
   pub content_long : length (content_carried S c n x) ≡ content_size (other S) c n
   content_long =
       by_bool (is_numeric c)
-      (λ y. ap length (numeric-is y) ∙ carried_long S n x (spelt y) ∙ sym (numeric-size y))
-      (λ z. ap length (as_is z) ∙ as-is-size z)
+      (λ y. ap length (numeric_is y) ∙ carried_long S n x (spelt y) ∙ sym (numeric_size y))
+      (λ z. ap length (as_is z) ∙ as_is_size z)
 
   -- the ends of `carry_content`
   module _ (o : List ℕ) (room : content_size (other S) c n ≤ length o) (flag : Bool) (tested : flag ≡ is_numeric c) (r : List ℕ) where
-    pub content-carried : flag ≡ true → r ≡ carried_into S n x o → r ≡ lay (content_carried S c n x) o
-    content-carried t e =
+    pub content_carried_lem : flag ≡ true → r ≡ carried_into S n x o → r ≡ lay (content_carried S c n x) o
+    content_carried_lem t e =
         let y : is_numeric c ≡ true = sym tested ∙ t in
-        rw (numeric-is y)
-        (e ∙ carried_placed S n x o (spelt y) ∙ placed_fits (carried S n x) o (size_of (other S) n) (carried_long S n x (spelt y)) (omega (arith, room, numeric-size y)))
+        rw (numeric_is y)
+        (e ∙ carried_placed S n x o (spelt y) ∙ placed_fits (carried S n x) o (size_of (other S) n) (carried_long S n x (spelt y)) (omega (arith, room, numeric_size y)))
 
-    pub content-put : flag ≡ false → r ≡ placed x o → r ≡ lay (content_carried S c n x) o
-    content-put t e =
+    pub content_put : flag ≡ false → r ≡ placed x o → r ≡ lay (content_carried S c n x) o
+    content_put t e =
         let z : is_numeric c ≡ false = sym tested ∙ t in
-        rw (as_is z) (e ∙ placed_fits x o (content_size (other S) c n) (as-is-size z) room)
+        rw (as_is z) (e ∙ placed_fits x o (content_size (other S) c n) (as_is_size z) room)
 
 -- a field
 module _ (S : Script) (t : Table) (f : ℕ) (s : List ℕ) (a n k j : ℕ) (found : judge_item S t f s ≡ Found a n k j) where
@@ -109,18 +109,18 @@ module _ (S : Script) (t : Table) (f : ℕ) (s : List ℕ) (a n k j : ℕ) (foun
   -- the end of `carry_item`: o held the output, e once the length digits were written, g is the part with the content
   module _ (o e g : List ℕ) (w x : ℕ) (c : Class) (X : Script) (room : j ≤ length o) (wide : w ≡ t.width f) (across : X ≡ other S) (first : x ≡ size_of X w) (classed : c ≡ t.class f)
       (digits : e ≡ carried_into S w (take a s) o) where
-    first-is : x ≡ size_of (other S) (t.width f)
-    first-is = first ∙ rw (across, wide)
+    first_is : x ≡ size_of (other S) (t.width f)
+    first_is = first ∙ rw (across, wide)
 
     laid : e ≡ lay (carried S (t.width f) (take a s)) o
     laid =
         digits ∙ ap (λ (q : ℕ). carried_into S q (take a s) o) wide ∙ carried_placed S (t.width f) (take a s) o digits_good
         ∙ placed_fits (carried S (t.width f) (take a s)) o (size_of (other S) (t.width f)) digits_carried_long (omega (arith, room, across_is))
 
-    pub item-carried : g ≡ lay (content_carried S c n (take (a + k - a) (drop a s))) (mid_of x (length e - x) e) → put_mid x (length e - x) e g ≡ lay (item_carried S t f a n k s) o
+    pub item_carried_lem : g ≡ lay (content_carried S c n (take (a + k - a) (drop a s))) (mid_of x (length e - x) e) → put_mid x (length e - x) e g ≡ lay (item_carried S t f a n k s) o
     unfolding item_carried
-    item-carried h =
-        lay_part (carried S (t.width f) (take a s)) (content_carried S (t.class f) n (take k (drop a s))) o e g x laid (digits_carried_long ∙ sym first-is)
+    item_carried_lem h =
+        lay_part (carried S (t.width f) (take a s)) (content_carried S (t.class f) n (take k (drop a s))) o e g x laid (digits_carried_long ∙ sym first_is)
         (h ∙ rw (add-sub_cancel_left a k, classed))
 
 -- by a table that is lent, what a field takes in the other script is a small number

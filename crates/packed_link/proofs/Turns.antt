@@ -17,7 +17,7 @@ use Rattle.packed_field.specs.Items.{judge_item}
 use Rattle.packed_link.specs.declared.Judged.TheVariants.{Refused}
 use Rattle.packed_link.specs.Link.{fields_judged}
 use Rattle.packed_link.proofs.Items.{item_within, item_small}
-use Rattle.packed_link.proofs.Fields.{fields_refused, fields-good}
+use Rattle.packed_link.proofs.Fields.{fields_refused, fields_good}
 
 -- A turn for the field f: judged at the place `at`, it gives o. The table is lent, as the codes cs.
 pub record Met (S : Script) (cs s fs : List ℕ) (at i f : ℕ) (o : Item) : Type 0 where
@@ -46,25 +46,25 @@ module _ {S : Script} {cs s fs : List ℕ} {start before at w i : ℕ} (c : Scan
     begins : fields_judged S (decoded cs) start before fs (drop start s) ≡ fields_judged S (decoded cs) at w (f ∷ drop (i + 1) fs) (drop at s)
     begins = c.whole ∙ ap (λ (l : List ℕ). fields_judged S (decoded cs) at w l (drop at s)) k.here
 
-    pub scan-refused : {n : ℕ} → o ≡ ItemRefused n → Refused (refusal n f at) ≡ fields_judged S (decoded cs) start before fs (drop start s)
-    scan-refused is = sym (begins ∙ fields_refused S (decoded cs) f (drop (i + 1) fs) (drop at s) at w _ (sym k.gives ∙ is))
+    pub scan_refused : {n : ℕ} → o ≡ ItemRefused n → Refused (refusal n f at) ≡ fields_judged S (decoded cs) start before fs (drop start s)
+    scan_refused is = sym (begins ∙ fields_refused S (decoded cs) f (drop (i + 1) fs) (drop at s) at w _ (sym k.gives ∙ is))
 
     module _ {a n l j : ℕ} (is : o ≡ Found a n l j) where
       judged : judge_item S (decoded cs) f (drop at s) ≡ Found a n l j
       judged = sym k.gives ∙ is
 
-      pub scan-within : at + (a + l) ≤ length s
-      scan-within = omega (arith, item_within S (decoded cs) f (drop at s) a n l j judged, length-drop at s, c.inside)
+      pub scan_within : at + (a + l) ≤ length s
+      scan_within = omega (arith, item_within S (decoded cs) f (drop at s) a n l j judged, length-drop at s, c.inside)
 
-      pub scan-small : w + j ≤ before + 1026 * (i + 1)
-      scan-small = omega (arith, item_small S cs f (drop at s) a n l j judged, c.small)
+      pub scan_small : w + j ≤ before + 1026 * (i + 1)
+      scan_small = omega (arith, item_small S cs f (drop at s) a n l j judged, c.small)
 
       pub scan_good : Scanned S cs s fs start before (at + (a + l)) (w + j) (i + 1)
       scan_good =
           record {
-            inside = scan-within;
-            small = scan-small;
+            inside = scan_within;
+            small = scan_small;
             whole =
-                begins ∙ fields-good S (decoded cs) f (drop (i + 1) fs) (drop at s) a n l j judged at w
+                begins ∙ fields_good S (decoded cs) f (drop (i + 1) fs) (drop at s) a n l j judged at w
                 ∙ ap (fields_judged S (decoded cs) (at + (a + l)) (w + j) (drop (i + 1) fs)) (drop-drop (a + l) at s);
           }

@@ -14,7 +14,7 @@ use Rattle.packed_field.specs.Scripts.{other, size_of, spelt_in}
 use Rattle.packed_field.specs.Items.{content_size, judge_item}
 use Rattle.packed_link.specs.declared.Judged.TheVariants.{Good}
 use Rattle.packed_link.specs.Link.{item_carried, fields_judged, fields_carried}
-use Rattle.packed_link.proofs.Fields.{fields_refused, fields-good, carried_good, never, by_item}
+use Rattle.packed_link.proofs.Fields.{fields_refused, fields_good, carried_good, never, by_item}
 use Rattle.packed_language.specs.Packed.{Allowed, AllAllowed, none, more}
 use Rattle.packed_trips.proofs.Forms.{content_in, fields_in}
 use Rattle.packed_trips.proofs.Items.{length_sized, content_sized, content_out, item_found, item_across, item_read, item_behind, item_allowed, item_form, item_out, item_takes}
@@ -83,7 +83,7 @@ taken S t small at w (f ∷ fs) s u v e =
     (λ n r. absurd (never _ u v n f at (fields_refused S t f fs s at w n r) e))
     (λ a n k j r.
     rw (contents_good S t f fs s a n k j r)
-    (taken_more S t small at f fs s u a n k j (contents_read S t fs (drop (a + k) s)) r (taken S t small (at + (a + k)) (w + j) fs (drop (a + k) s) u v (sym (fields-good S t f fs s a n k j r at w) ∙ e))))
+    (taken_more S t small at f fs s u a n k j (contents_read S t fs (drop (a + k) s)) r (taken S t small (at + (a + k)) (w + j) fs (drop (a + k) s) u v (sym (fields_good S t f fs s a n k j r at w) ∙ e))))
 
 -- Complete.
 pub record Given (S : Script) (t : Table) (at w : ℕ) (cs : List Content) (after : List ℕ) : Type 0 where
@@ -125,7 +125,7 @@ given_more S t at w c cs after al r =
     let v : w + j + length (fields_in (other S) t cs) ≡ w + length (spelt_in (other S) (decimal (t.width f) (length b)) ++ (content_in (other S) (t.class f) b ++ fields_in (other S) t cs)) =
     omega (arith, field_long (other S) t f b (fields_in (other S) t cs)) in
     record {
-      answer = rw whole (fields-good S t f (numbers_in cs) s a (length b) k j e at w ∙ rw d (r.answer ∙ (λ i. Good (u i) (v i))));
+      answer = rw whole (fields_good S t f (numbers_in cs) s a (length b) k j e at w ∙ rw d (r.answer ∙ (λ i. Good (u i) (v i))));
       read =
           rw whole
           (contents_good S t f (numbers_in cs) s a (length b) k j e ∙ rw d (ap (λ (l : List Content). content f (content_out S (t.class f) (length b) (take k (drop a s))) ∷ l) r.read)

@@ -59,9 +59,9 @@ module _ (S : Script) (c : Class) (x : List ℕ) where
         (λ y. rw y (spelling_good S x (digits y)))
         (λ z. rw z (by_bool (is_binary c) (λ b. rw b) (λ b. rw b (text b))))
 
-    content-across : content_carried S c (length x) (content_in S c x) ≡ content_in (other S) c x
+    content_across : content_carried S c (length x) (content_in S c x) ≡ content_in (other S) c x
     unfolding content_in content_carried carried
-    content-across = by_bool (is_numeric c) (λ y. rw y (ap (spelt_in (other S)) (spelling_back S x (digits y)))) (λ z. rw z)
+    content_across = by_bool (is_numeric c) (λ y. rw y (ap (spelt_in (other S)) (spelling_back S x (digits y)))) (λ z. rw z)
 
 -- the content that such bytes stand for, in the plain form
 unfoldable pub content_out : Script → Class → ℕ → List ℕ → List ℕ
@@ -134,7 +134,7 @@ module _ (S : Script) (t : Table) (f : ℕ) (c rest : List ℕ) (al : Allowed t 
 
   pub item_across : item_carried S t f a n size whole ≡ spelt_in (other S) (decimal w n) ++ content_in (other S) k c
   unfolding item_carried carried
-  item_across = rw (front, content_front, length_back S w n, content-across S k c al.digits al.item.text)
+  item_across = rw (front, content_front, length_back S w n, content_across S k c al.digits al.item.text)
 
   pub item_read : content_out S k n (take size (drop a whole)) ≡ c
   unfolding content_out content_in

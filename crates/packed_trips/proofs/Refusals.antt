@@ -40,7 +40,7 @@ use Rattle.packed_link.specs.declared.Judged.TheVariants.{Refused as JudgedBad}
 use Rattle.packed_link.specs.declared.Translated.{Translated}
 use Rattle.packed_link.specs.declared.Translated.TheVariants.{Done, Refused}
 use Rattle.packed_link.specs.Link.{mti_fault, link_head, fields_judged, body_judged, link_judged, link_answer}
-use Rattle.packed_link.proofs.Fields.{fields_refused, fields-good, by_item}
+use Rattle.packed_link.proofs.Fields.{fields_refused, fields_good, by_item}
 use Rattle.packed_trips.specs.Refusals.{TakesOrEight, RefusesAsReader, BinaryNeverText, HouseRefuses, WorkedRefusals}
 use Rattle.packed_trips.proofs.Items.{digit_ascii}
 use Rattle.packed_trips.proofs.Messages.{by_head, by_judged}
@@ -288,7 +288,7 @@ fields_never S t f y at w (g ∷ fs) s p e =
     let i : refusal n g at ≡ refusal text_not_ascii f p = cc in
     let k : g ≡ f = ap (λ (r : Refusal). r.field) i in
     item_never S t g s (rw k y) (h ∙ ap (λ (r : Refusal). ItemRefused r.number) i))
-    (λ a n k j h. fields_never S t f y (at + (a + k)) (w + j) fs (drop (a + k) s) p (sym (fields-good S t g fs s a n k j h at w) ∙ e))
+    (λ a n k j h. fields_never S t f y (at + (a + k)) (w + j) fs (drop (a + k) s) p (sym (fields_good S t g fs s a n k j h at w) ∙ e))
 
 -- a head's refusal has another number
 head_number_lem : (o : BitmapsRead) (x g q f p : ℕ) → o ≡ HeadRefused (refusal x g q) → o ≡ HeadRefused (refusal text_not_ascii f p) → x ≡ text_not_ascii

@@ -22,17 +22,17 @@ module _ (fault source : ℕ) (r d : List ℕ) (tested : fault ≡ source) where
   refused_output h = rw (← tested, ne_eqb fault 0 h)
 
   module _ (good : fault ≡ 0) (n : ℕ) (sized : length r ≡ n) where
-    pub short-answer : length d < n → Refused (plain output_too_short) ≡ converted source r d
+    pub short_answer : length d < n → Refused (plain output_too_short) ≡ converted source r d
     unfolding converted
-    short-answer h = rw (← tested, eq-eqb fault 0 good, sized, lt-leb n (length d) h)
+    short_answer h = rw (← tested, eq-eqb fault 0 good, sized, lt-leb n (length d) h)
 
-    pub short-output : length d < n → d ≡ converted_into source r d
+    pub short_output : length d < n → d ≡ converted_into source r d
     unfolding converted_into
-    short-output h = rw (← tested, eq-eqb fault 0 good) (placed_short r d n sized h)
+    short_output h = rw (← tested, eq-eqb fault 0 good) (placed_short r d n sized h)
 
-    pub done-answer : n ≤ length d → Written n ≡ converted source r d
+    pub done_answer : n ≤ length d → Written n ≡ converted source r d
     unfolding converted
-    done-answer h = rw (← tested, eq-eqb fault 0 good, sized, le-leb n (length d) h)
+    done_answer h = rw (← tested, eq-eqb fault 0 good, sized, le-leb n (length d) h)
 
     pub done_output : (e : List ℕ) → n ≤ length d → e ≡ lay r d → e ≡ converted_into source r d
     unfolding converted_into
@@ -64,4 +64,4 @@ pub told_fault : (n : ℕ) (r d : List ℕ) → (n ≡ 0 → ⊥) → told (conv
 told_fault n r d h = ap told (converted_fails n r d h)
 
 pub told_short : (r d : List ℕ) → length d < length r → told (converted 0 r d) ≡ tell (plain output_too_short) (0 ∷ [])
-told_short r d h = ap told (sym (short-answer 0 0 r d refl refl (length r) refl h))
+told_short r d h = ap told (sym (short_answer 0 0 r d refl refl (length r) refl h))

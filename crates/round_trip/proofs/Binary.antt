@@ -95,31 +95,31 @@ module _ (q : Fault) (f : ℕ) (fine : (a n : ℕ) → q (entry f a n) ≡ text_
       (λ h. omega (arith, same_judged (rw h at e)))
 
   module _ (F : Form) (m : ℕ) where
-    judged-not : (last : ℕ) (s : List ℕ) → judged F q m last s ≡ NotPassed text_not_ascii f → ⊥
-    judged-not last s e =
+    judged_not : (last : ℕ) (s : List ℕ) → judged F q m last s ≡ NotPassed text_not_ascii f → ⊥
+    judged_not last s e =
         by_note (note_at F s)
         (λ h. omega (arith, same_judged (sym (judged_malformed F q m last s h) ∙ e)))
         (λ u h. not_end (sym (judged_end F q m last s u h) ∙ e))
         (λ g a n h. judged_field_not (is_marked F g s) m last g a n (sym (judged_note F q m last s g a n h) ∙ e))
 
-    ending-not : (k last at : ℕ) (s : List ℕ) (p : ℕ) → ending F q m k last at s ≡ WalkRefused (refusal text_not_ascii f p) → ⊥
+    ending_not : (k last at : ℕ) (s : List ℕ) (p : ℕ) → ending F q m k last at s ≡ WalkRefused (refusal text_not_ascii f p) → ⊥
     unfolding ending
-    ending-not zero last at s p e = omega (arith, number_of (same_walk e))
-    ending-not (suc k) last at s p e =
+    ending_not zero last at s p e = omega (arith, number_of (same_walk e))
+    ending_not (suc k) last at s p e =
         by_judged (judged F q m last s)
         (λ n g h.
         let r : refusal n g at ≡ refusal text_not_ascii f p = same_walk (sym (ending_bad F q m k last at s n g h) ∙ e) in
         let x : g ≡ f = field_of r in
         let y : n ≡ text_not_ascii = number_of r in
-        judged-not last s (rw (x, y) at h))
+        judged_not last s (rw (x, y) at h))
         (λ u h. not_ended (sym (ending_end F q m k last at s u h) ∙ e))
-        (λ g a n h. ending-not k g (at + note_size F) (drop (note_size F) s) p (sym (ending_more F q m k last at s g a n h) ∙ e))
+        (λ g a n h. ending_not k g (at + note_size F) (drop (note_size F) s) p (sym (ending_more F q m k last at s g a n h) ∙ e))
 
   walked_not : (d : Dialect) (n : List ℕ) (p : ℕ) → walked d q n ≡ WalkRefused (refusal text_not_ascii f p) → ⊥
   unfolding walked
   walked_not d n p e =
       by_bool (eqb (head_number d.most n) 0)
-      (λ h. ending-not d.form (count_in n) (length n) 0 head_size (drop head_size n) p (rw h at e))
+      (λ h. ending_not d.form (count_in n) (length n) 0 head_size (drop head_size n) p (rw h at e))
       (λ h. head_number_not d.most n (number_of (same_walk (rw h at e))))
 
   -- and a writer over it

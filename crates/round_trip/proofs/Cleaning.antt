@@ -31,9 +31,9 @@ use Rattle.message_walk.proofs.Written.{Walkable, entries_walkable}
 use Rattle.message_write.specs.Written.{exactly, cleanly, exact_message, clean_message, message_of, exact_answer, exact_output, clean_answer, clean_output, clean_padded}
 use Rattle.message_write.proofs.Answered.{padded_written, padded_refused}
 use Rattle.round_trip.specs.RoundTrip.{contents_named, Short, AgreesWithExact, PadsShortAlone}
-use Rattle.round_trip.proofs.Rereading.{exact_inside, written, begins, begins-maps, reads_as, exact-named, clean-named, exact-wrote, clean-wrote}
+use Rattle.round_trip.proofs.Rereading.{exact_inside, written, begins, begins_maps, reads_as, exact_named, clean_named, exact_wrote, clean_wrote}
 use Rattle.round_trip.proofs.Shorts.{is_short_lem, outside_alike, short_fields, listed_short, short_listed, none_listed, none_alike, exact_long, exact_cleaned}
-use Rattle.round_trip.proofs.RoundTrip.{read-answers, read-given-back}
+use Rattle.round_trip.proofs.RoundTrip.{read_answers, read_given_back}
 
 -- a set has the bits of its fields, and no others
 set_bit : (fs : List ℕ) (f : ℕ) → all is_field fs ≡ true → bit_of (set_of fs) f ≡ is_in f fs
@@ -70,27 +70,27 @@ module _ (d : Dialect) (v n : List ℕ) where
 
   -- where the cleaning writer writes
   module _ (out : List ℕ) (u : ℕ) (h : clean_answer d v n out ≡ Written u) where
-    pub padded-is : clean_padded d v n out ≡ set_of (short_in d.table (entries_in d (within v any) n))
+    pub padded_is : clean_padded d v n out ≡ set_of (short_in d.table (entries_in d (within v any) n))
     unfolding clean_padded
-    padded-is =
+    padded_is =
         padded_written (clean_answer d v n out) (set_of (short_in t (entries_in d (cleanly d v) n))) u h
-        ∙ ap (λ (l : List Entry). set_of (short_in t l)) (sym (clean-named d v n out u h))
+        ∙ ap (λ (l : List Entry). set_of (short_in t l)) (sym (clean_named d v n out u h))
 
-    padded-bit : (f : ℕ) → bit_of (clean_padded d v n out) f ≡ is_in f (short_in t es)
-    padded-bit f = ap (λ (s : List ℕ). bit_of s f) padded-is ∙ set_bit (short_in t es) f (short_fields t v (count_in n) passes)
+    padded_bit : (f : ℕ) → bit_of (clean_padded d v n out) f ≡ is_in f (short_in t es)
+    padded_bit f = ap (λ (s : List ℕ). bit_of s f) padded_is ∙ set_bit (short_in t es) f (short_fields t v (count_in n) passes)
 
     pub padded_short : (f : ℕ) → bit_of (clean_padded d v n out) f ≡ true → Short d.table f (contents_named d v n)
-    padded_short f y = listed_short t v (count_in n) passes f (sym (padded-bit f) ∙ y)
+    padded_short f y = listed_short t v (count_in n) passes f (sym (padded_bit f) ∙ y)
 
     pub short_padded : (f : ℕ) → Short d.table f (contents_named d v n) → bit_of (clean_padded d v n out) f ≡ true
-    short_padded f x = padded-bit f ∙ is_listed f x
+    short_padded f x = padded_bit f ∙ is_listed f x
 
-    pub only-padded : (before : List Content) (f : ℕ) (c : List ℕ) (after : List Content) → contents_named d v n ≡ before ++ (content f c ∷ after)
+    pub only_padded : (before : List Content) (f : ℕ) (c : List ℕ) (after : List Content) → contents_named d v n ≡ before ++ (content f c ∷ after)
         → bit_of (clean_padded d v n out) f ≡ false → cleaned d.table f c ≡ c
-    only-padded before f c after e clear =
+    only_padded before f c after e clear =
         not_short_whole t f c
         (by_bool (is_short t f (length c))
-        (λ y. absurd (false_true (sym clear ∙ padded-bit f ∙ short_listed t v (count_in n) passes f before c after e y)))
+        (λ y. absurd (false_true (sym clear ∙ padded_bit f ∙ short_listed t v (count_in n) passes f before c after e y)))
         (λ y. y))
 
   pub refused_none : (out : List ℕ) (r : Refusal) → clean_answer d v n out ≡ Refused r → clean_padded d v n out ≡ no_fields
@@ -101,7 +101,7 @@ module _ (d : Dialect) (v n : List ℕ) where
   pub written_not_short : (out : List ℕ) (u : ℕ) → exact_answer d v n out ≡ Written u → (f : ℕ) → Short d.table f (contents_named d v n) → ⊥
   unfolding exactly
   written_not_short out u h f x =
-      let e : short_in t es ≡ [] = rw (exact-named d v n out u h) (exact_long t v (count_in n) (entries_walkable d (exactly d v) n)) in
+      let e : short_in t es ≡ [] = rw (exact_named d v n out u h) (exact_long t v (count_in n) (entries_walkable d (exactly d v) n)) in
       false_true (ap (is_in f) (sym e) ∙ is_listed f x)
 
   -- where nothing is short
@@ -127,9 +127,9 @@ module _ (d : Dialect) (v n : List ℕ) where
         ∙ ap (message_with t (mti_in n) (count_in n)) (exact_cleaned t v (count_in n) (entries_walkable d (exactly d v) n))
 
     module _ (out : List ℕ) where
-      pub answers-alike : clean_answer d v n out ≡ exact_answer d v n out
+      pub answers_alike : clean_answer d v n out ≡ exact_answer d v n out
       unfolding clean_answer exact_answer
-      answers-alike = rw (walks, messages)
+      answers_alike = rw (walks, messages)
 
       pub leaves_alike : clean_output d v n out ≡ exact_output d v n out
       unfolding clean_output exact_output
@@ -138,13 +138,13 @@ module _ (d : Dialect) (v n : List ℕ) where
       pub none_padded : clean_padded d v n out ≡ no_fields
       none_padded =
           by_output (clean_answer d v n out)
-          (λ u h. padded-is out u h ∙ ap set_of (none_listed t v (count_in n) passes no_short) ∙ no_fields_lem)
+          (λ u h. padded_is out u h ∙ ap set_of (none_listed t v (count_in n) passes no_short) ∙ no_fields_lem)
           (refused_none out)
 
 pub agrees_with_exact : (d : Dialect) → AgreesWithExact d
 agrees_with_exact d =
     record {
-      same_answer = λ v n out no_short. answers-alike d v n no_short out;
+      same_answer = λ v n out no_short. answers_alike d v n no_short out;
       same_output = λ v n out no_short. leaves_alike d v n no_short out;
       none_padded = λ v n out no_short. none_padded d v n no_short out;
       exact_not_short = written_not_short d;
@@ -160,11 +160,11 @@ in_one_piece t f c =
 pub pads_short_alone : (d : Dialect) → Sound d → PadsShortAlone d
 pads_short_alone d sound =
     record {
-      exact_writes = λ v n out u h. written d (exactly d v) n out (exact_output d v n out) u (contents_named d v n) (exact-wrote d v n out u h);
+      exact_writes = λ v n out u h. written d (exactly d v) n out (exact_output d v n out) u (contents_named d v n) (exact_wrote d v n out u h);
       clean_writes =
           λ v n out u h.
-          written d (cleanly d v) n out (clean_output d v n out) u (cleaned_in d.table (contents_named d v n)) (clean-wrote d v n out u h);
-      only_padded_differ = only-padded d;
+          written d (cleanly d v) n out (clean_output d v n out) u (cleaned_in d.table (contents_named d v n)) (clean_wrote d v n out u h);
+      only_padded_differ = only_padded d;
       nothing_dropped = in_one_piece d.table;
       cleaned_taken = cleaned_exact d.table;
       padded_short = padded_short d;
@@ -172,15 +172,15 @@ pads_short_alone d sound =
       refused_none = refused_none d;
       reads_back =
           λ v n out s b u h same room.
-          reads_as d (cleanly d v) n out (clean_output d v n out) u (cleaned_in d.table (contents_named d v n)) (clean-wrote d v n out u h) sound s same b room;
+          reads_as d (cleanly d v) n out (clean_output d v n out) u (cleaned_in d.table (contents_named d v n)) (clean_wrote d v n out u h) sound s same b room;
       exact_again =
           λ v n out s b o u h same room enough.
           let cs = cleaned_in d.table (contents_named d v n) in
-          let w = clean-wrote d v n out u h in
+          let w = clean_wrote d v n out u h in
           let r = reading_of d.table (mti_in n) (count_in n) cs in
           let x = begins d (cleanly d v) n out (clean_output d v n out) u cs w sound s same in
-          let maps = begins-maps d (cleanly d v) n out (clean_output d v n out) u cs w sound s same in (
-            read-answers d sound s u r x maps o enough b room,
-            read-given-back d sound s u r x maps o enough b room,
+          let maps = begins_maps d (cleanly d v) n out (clean_output d v n out) u cs w sound s same in (
+            read_answers d sound s u r x maps o enough b room,
+            read_given_back d sound s u r x maps o enough b room,
           );
     }

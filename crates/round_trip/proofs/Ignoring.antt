@@ -7,7 +7,7 @@ use Rattle.message_notes.specs.Dialect.{Dialect, Sound}
 use Rattle.message_notes.specs.Notes.{notes_of, mti_in, count_in}
 use Rattle.message_walk.specs.Walk.{Fault, walked, entries_in}
 use Rattle.message_walk.specs.Faults.{any, within}
-use Rattle.message_walk.proofs.Behind.{behind-walked, behind-entries}
+use Rattle.message_walk.proofs.Behind.{behind_walked, behind_entries}
 use Rattle.message_lookup.specs.Lookup.{looked_up}
 use Rattle.message_write.specs.Written.{exactly, cleanly, exact_message, clean_message, exact_answer, exact_output, clean_answer, clean_output, clean_padded}
 use Rattle.round_trip.specs.RoundTrip.{IgnoresBehind}
@@ -23,13 +23,13 @@ module _ (d : Dialect) (sound : Sound d) (s v rest : List ℕ) (u : ℕ) (r : Re
   module _ (p : Fault) where
     walks : walked d p notes ≡ walked d p bare
     walks =
-        behind-walked d sound.apart sound.spelt p r u x.is.four x.is.digits (least d sound s u r x) (three d sound s u r x) x.is.few
+        behind_walked d sound.apart sound.spelt p r u x.is.four x.is.digits (least d sound s u r x) (three d sound s u r x) x.is.few
         (used_fits d sound s u r x) (all_fit d sound s u r x) rest []
         ∙ ap (walked d p) (append-nil bare)
 
     entries : entries_in d p notes ≡ entries_in d p bare
     entries =
-        behind-entries d sound.apart sound.spelt p r u x.is.four x.is.digits (least d sound s u r x) (three d sound s u r x) x.is.few
+        behind_entries d sound.apart sound.spelt p r u x.is.four x.is.digits (least d sound s u r x) (three d sound s u r x) x.is.few
         (used_fits d sound s u r x) (all_fit d sound s u r x) rest []
         ∙ ap (entries_in d p) (append-nil bare)
 

@@ -16,7 +16,7 @@ use Rattle.message_reader.specs.Reader.{notes_after}
 use Rattle.message_walk.specs.declared.Walked.TheVariants.{Ended}
 use Rattle.message_walk.specs.Walk.{Fault, walked, entries_in}
 use Rattle.message_walk.specs.Faults.{any, within}
-use Rattle.message_walk.proofs.Weaker.{weaker-walked, weaker-entries}
+use Rattle.message_walk.proofs.Weaker.{weaker_walked, weaker_entries}
 use Rattle.message_walk.proofs.Written.{Walkable, none, more}
 use Rattle.message_lookup.specs.Lookup.{found_in, found_by, looked_up}
 use Rattle.message_lookup.specs.declared.Found.TheVariants.{At, Refused}
@@ -75,14 +75,14 @@ module _ (d : Dialect) (sound : Sound d) (s : List ℕ) (u : ℕ) (r : Reading) 
     notes = notes_of d.form r u ++ rest
 
     ended : walked d (within s any) notes ≡ Ended (end_place d.form r) u
-    ended = weaker-walked d (exactly d s) notes (end_place d.form r) u n.ended (within s any) (exact_inside d s)
+    ended = weaker_walked d (exactly d s) notes (end_place d.form r) u n.ended (within s any) (exact_inside d s)
 
     entries : entries_in d (within s any) notes ≡ r.entries
-    entries = weaker-entries d (exactly d s) notes (end_place d.form r) u n.ended (within s any) (exact_inside d s) ∙ n.entries
+    entries = weaker_entries d (exactly d s) notes (end_place d.form r) u n.ended (within s any) (exact_inside d s) ∙ n.entries
 
-    looked-up : (f : ℕ) → looked_up d s (notes_of d.form r u ++ rest) f ≡ found_in f (end_place d.form r) r.entries
+    looked_up_lem : (f : ℕ) → looked_up d s (notes_of d.form r u ++ rest) f ≡ found_in f (end_place d.form r) r.entries
     unfolding looked_up found_by
-    looked-up f = rw (looked_up, ended, entries)
+    looked_up_lem f = rw (looked_up, ended, entries)
 
   is_found_lem : (before : List Entry) (e : Entry) (after : List Entry) → r.entries ≡ before ++ (e ∷ after)
       → found_in e.number (end_place d.form r) r.entries ≡ At e.offset e.size
@@ -90,13 +90,13 @@ module _ (d : Dialect) (sound : Sound d) (s : List ℕ) (u : ℕ) (r : Reading) 
       found (within s (exact_fault d.table)) r.count (end_place d.form r) (noted d sound s u r x []).fields.walk before e after h
 
   read_looked_up : (b : List ℕ) → notes_room d ≤ length b → (f : ℕ) → looked_up d s (notes_after d s b) f ≡ found_in f (end_place d.form r) r.entries
-  read_looked_up b room f = ap (λ (l : List ℕ). looked_up d s l f) (read_notes d sound s u r x b room) ∙ looked-up (drop (length (notes_of d.form r u)) b) f
+  read_looked_up b room f = ap (λ (l : List ℕ). looked_up d s l f) (read_notes d sound s u r x b room) ∙ looked_up_lem (drop (length (notes_of d.form r u)) b) f
 
 pub looks_up : (d : Dialect) → Sound d → LooksUp d
 looks_up d sound =
     record {
-      finds = λ s rest u r x before e after h. looked-up d sound s u r x rest e.number ∙ is_found_lem d sound s u r x before e after h;
-      misses = λ s rest u r x f h. looked-up d sound s u r x rest f ∙ missed f (end_place d.form r) r.entries h;
+      finds = λ s rest u r x before e after h. looked_up_lem d sound s u r x rest e.number ∙ is_found_lem d sound s u r x before e after h;
+      misses = λ s rest u r x f h. looked_up_lem d sound s u r x rest f ∙ missed f (end_place d.form r) r.entries h;
       read_finds = λ s b u r room x before e after h. read_looked_up d sound s u r x b room e.number ∙ is_found_lem d sound s u r x before e after h;
       read_misses = λ s b u r room x f h. read_looked_up d sound s u r x b room f ∙ missed f (end_place d.form r) r.entries h;
     }

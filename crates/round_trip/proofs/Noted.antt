@@ -18,7 +18,7 @@ use Rattle.message_reader.proofs.Demand3.{reads}
 use Rattle.message_reader.proofs.Small.{entries_fit, used_small}
 use Rattle.message_walk.specs.declared.Walked.TheVariants.{Ended}
 use Rattle.message_walk.specs.Walk.{walked, entries_in}
-use Rattle.message_walk.proofs.Written.{mti_in_lem, count_in_lem, written-walked, written-entries}
+use Rattle.message_walk.proofs.Written.{mti_in_lem, count_in_lem, written_walked, written_entries}
 use Rattle.message_write.specs.Written.{exactly}
 use Rattle.round_trip.specs.RoundTrip.{end_place}
 use Rattle.round_trip.proofs.Fields.{Back, back}
@@ -70,6 +70,6 @@ module _ (d : Dialect) (sound : Sound d) (s : List ℕ) (u : ℕ) (r : Reading) 
         fields = is_back;
         mti = mti_in_lem F r u rest M.four M.digits least three;
         count = count_in_lem F r u rest M.four M.digits least three;
-        ended = written-walked F r u rest M.four M.digits least three d refl M.few sound.apart sound.spelt p used_fits all_fit is_back.walk;
-        entries = written-entries F r u rest M.four M.digits least three d refl M.few sound.apart sound.spelt p used_fits all_fit is_back.walk;
+        ended = written_walked F r u rest M.four M.digits least three d refl M.few sound.apart sound.spelt p used_fits all_fit is_back.walk;
+        entries = written_entries F r u rest M.four M.digits least three d refl M.few sound.apart sound.spelt p used_fits all_fit is_back.walk;
       }

@@ -19,7 +19,7 @@ use Rattle.message_reader.proofs.Demand3.{reads}
 use Rattle.message_walk.specs.Walk.{Fault, walked, entries_in}
 use Rattle.message_walk.specs.Faults.{any, within}
 use Rattle.message_walk.proofs.Heads.{Head, ended_head, good_head}
-use Rattle.message_walk.proofs.Weaker.{weaker-entries}
+use Rattle.message_walk.proofs.Weaker.{weaker_entries}
 use Rattle.message_walk.proofs.Within.{is_inside, within_weaker}
 use Rattle.message_walk.proofs.Written.{Walkable, entries_walkable, none as Walked-none, more as Walked-more}
 use Rattle.message_write.specs.Written.{exactly, cleanly, exact_message, clean_message, message_of, answered, laid_out, exact_answer, exact_output, clean_answer, clean_output}
@@ -88,9 +88,9 @@ module _ (d : Dialect) (p : Fault) (n out o : List ℕ) (u : ℕ) (cs : List Con
       pub begins : Begins d.table d.most s u (reading_of d.table (mti_in n) (count_in n) cs)
       begins = record { message = bytes; after = drop u s; joined = joined; long = was.long; is = message }
 
-      pub begins-maps : bitmaps_with (count_in n) (numbers_of (standing d.table (4 + 8 * count_in n) cs)) ≡ begins.is.maps
+      pub begins_maps : bitmaps_with (count_in n) (numbers_of (standing d.table (4 + 8 * count_in n) cs)) ≡ begins.is.maps
       unfolding begins message
-      begins-maps = maps_are t sound.small (mti_in n) (count_in n) cs head.four head.digits head.least head.three w.taken d.most head.few
+      begins_maps = maps_are t sound.small (mti_in n) (count_in n) cs head.four head.digits head.least head.three w.taken d.most head.few
 
       pub reads_as : (b : List ℕ) → notes_room d ≤ length b → ReadsAs d s b u (mti_in n) (count_in n) cs
       reads_as b room =
@@ -108,52 +108,52 @@ module _ (d : Dialect) (v n out : List ℕ) (u : ℕ) where
   m = message_with d.table (mti_in n) (count_in n)
 
   module _ (h : exact_answer d v n out ≡ Written u) where
-    exact-was : Answered (walked d (exactly d v) n) (exact_message d v n) out u
+    exact_was : Answered (walked d (exactly d v) n) (exact_message d v n) out u
     unfolding exact_answer
-    exact-was = written_answered (walked d (exactly d v) n) (exact_message d v n) out u h
+    exact_was = written_answered (walked d (exactly d v) n) (exact_message d v n) out u h
 
-    pub exact-named : entries_in d (within v any) n ≡ entries_in d (exactly d v) n
-    exact-named = weaker-entries d (exactly d v) n exact-was.at u exact-was.ended (within v any) (exact_inside d v)
+    pub exact_named : entries_in d (within v any) n ≡ entries_in d (exactly d v) n
+    exact_named = weaker_entries d (exactly d v) n exact_was.at u exact_was.ended (within v any) (exact_inside d v)
 
-    exact-is : exact_message d v n ≡ m (contents_named d v n)
+    exact_is : exact_message d v n ≡ m (contents_named d v n)
     unfolding exact_message
-    exact-is = ap (λ (es : List Entry). m (contents_in v es)) (sym exact-named)
+    exact_is = ap (λ (es : List Entry). m (contents_in v es)) (sym exact_named)
 
-    pub exact-wrote : Wrote d (exactly d v) n out (exact_output d v n out) u (contents_named d v n)
+    pub exact_wrote : Wrote d (exactly d v) n out (exact_output d v n out) u (contents_named d v n)
     unfolding exact_answer exact_output exactly
-    exact-wrote =
+    exact_wrote =
         record {
-          answer = ap (λ (l : List ℕ). answered (walked d (exactly d v) n) l out) (sym exact-is) ∙ h;
-          output = ap (λ (l : List ℕ). laid_out (walked d (exactly d v) n) l out) exact-is;
-          taken = rw exact-named (exact_taken d.table v (count_in n) (entries_walkable d (exactly d v) n));
+          answer = ap (λ (l : List ℕ). answered (walked d (exactly d v) n) l out) (sym exact_is) ∙ h;
+          output = ap (λ (l : List ℕ). laid_out (walked d (exactly d v) n) l out) exact_is;
+          taken = rw exact_named (exact_taken d.table v (count_in n) (entries_walkable d (exactly d v) n));
         }
 
   module _ (h : clean_answer d v n out ≡ Written u) where
-    clean-was : Answered (walked d (cleanly d v) n) (clean_message d v n) out u
+    clean_was : Answered (walked d (cleanly d v) n) (clean_message d v n) out u
     unfolding clean_answer
-    clean-was = written_answered (walked d (cleanly d v) n) (clean_message d v n) out u h
+    clean_was = written_answered (walked d (cleanly d v) n) (clean_message d v n) out u h
 
-    pub clean-named : entries_in d (within v any) n ≡ entries_in d (cleanly d v) n
-    clean-named = weaker-entries d (cleanly d v) n clean-was.at u clean-was.ended (within v any) (clean_inside d v)
+    pub clean_named : entries_in d (within v any) n ≡ entries_in d (cleanly d v) n
+    clean_named = weaker_entries d (cleanly d v) n clean_was.at u clean_was.ended (within v any) (clean_inside d v)
 
     clean_is : clean_message d v n ≡ m (cleaned_in d.table (contents_named d v n))
     unfolding clean_message message_of
-    clean_is = ap (λ (es : List Entry). m (cleaned_in d.table (contents_in v es))) (sym clean-named)
+    clean_is = ap (λ (es : List Entry). m (cleaned_in d.table (contents_in v es))) (sym clean_named)
 
-    pub clean-wrote : Wrote d (cleanly d v) n out (clean_output d v n out) u (cleaned_in d.table (contents_named d v n))
+    pub clean_wrote : Wrote d (cleanly d v) n out (clean_output d v n out) u (cleaned_in d.table (contents_named d v n))
     unfolding clean_answer clean_output cleanly
-    clean-wrote =
+    clean_wrote =
         record {
           answer = ap (λ (l : List ℕ). answered (walked d (cleanly d v) n) l out) (sym clean_is) ∙ h;
           output = ap (λ (l : List ℕ). laid_out (walked d (cleanly d v) n) l out) clean_is;
-          taken = rw clean-named (clean_taken d.table v (count_in n) (entries_walkable d (cleanly d v) n));
+          taken = rw clean_named (clean_taken d.table v (count_in n) (entries_walkable d (cleanly d v) n));
         }
 
 pub writes_messages : (d : Dialect) → Sound d → WritesMessages d
 writes_messages d sound =
     record {
-      is_message = λ v n out u h. messages d (exactly d v) n out (exact_output d v n out) u (contents_named d v n) (exact-wrote d v n out u h) sound;
+      is_message = λ v n out u h. messages d (exactly d v) n out (exact_output d v n out) u (contents_named d v n) (exact_wrote d v n out u h) sound;
       reads_back =
           λ v n out s b u h same room.
-          reads_as d (exactly d v) n out (exact_output d v n out) u (contents_named d v n) (exact-wrote d v n out u h) sound s same b room;
+          reads_as d (exactly d v) n out (exact_output d v n out) u (contents_named d v n) (exact_wrote d v n out u h) sound s same b room;
     }

@@ -42,13 +42,13 @@ module _ (d : Dialect) (sound : Sound d) (s : List ℕ) (u : ℕ) (r : Reading) 
       abbrev notes : List ℕ
       notes = notes_of d.form r u ++ rest
 
-      message-back : exact_message d s notes ≡ x.message
+      message_back : exact_message d s notes ≡ x.message
       unfolding exact_message message_with
-      message-back =
+      message_back =
           rw (n.entries, n.mti, n.count, contents_numbers s r.entries, bitmaps, n.fields.body) (sym x.is.spelt)
 
       was : Answered (walked d (exactly d s) notes) (exact_message d s notes) out u
-      was = record { at = end_place d.form r; ended = n.ended; long = ap length message-back ∙ x.long; room = enough }
+      was = record { at = end_place d.form r; ended = n.ended; long = ap length message_back ∙ x.long; room = enough }
 
       pub answers : exact_answer d s (notes_of d.form r u ++ rest) out ≡ Written u
       unfolding exact_answer
@@ -58,35 +58,35 @@ module _ (d : Dialect) (sound : Sound d) (s : List ℕ) (u : ℕ) (r : Reading) 
       unfolding exact_output
       given_back =
           answered_laid (walked d (exactly d s) notes) (exact_message d s notes) out u was
-          ∙ ap (λ (l : List ℕ). lay l out) (message-back ∙ taken)
+          ∙ ap (λ (l : List ℕ). lay l out) (message_back ∙ taken)
 
     module _ (b : List ℕ) (room : notes_room d ≤ length b) where
       abbrev behind : List ℕ
       behind = drop (length (notes_of d.form r u)) b
 
-      pub read-answers : exact_answer d s (notes_after d s b) out ≡ Written u
-      read-answers = ap (λ (l : List ℕ). exact_answer d s l out) (read_notes d sound s u r x b room) ∙ answers behind
+      pub read_answers : exact_answer d s (notes_after d s b) out ≡ Written u
+      read_answers = ap (λ (l : List ℕ). exact_answer d s l out) (read_notes d sound s u r x b room) ∙ answers behind
 
-      pub read-given-back : exact_output d s (notes_after d s b) out ≡ lay (take u s) out
-      read-given-back = ap (λ (l : List ℕ). exact_output d s l out) (read_notes d sound s u r x b room) ∙ given_back behind
+      pub read_given_back : exact_output d s (notes_after d s b) out ≡ lay (take u s) out
+      read_given_back = ap (λ (l : List ℕ). exact_output d s l out) (read_notes d sound s u r x b room) ∙ given_back behind
 
   -- And they are, where the input is bytes.
   module _ (bytes : all is_byte s ≡ true) where
-    maps-bytes : all is_byte x.is.maps ≡ true
-    maps-bytes =
+    maps_bytes : all is_byte x.is.maps ≡ true
+    maps_bytes =
         let a : all is_byte ((r.mti ++ x.is.maps) ++ (x.is.body ++ x.after)) ≡ true = sym (ap (all is_byte) (parts d sound s u r x)) ∙ bytes in
         all_right is_byte r.mti x.is.maps (all_left is_byte (r.mti ++ x.is.maps) (x.is.body ++ x.after) a)
 
-    pub bitmaps-back : bitmaps_with r.count (numbers_of r.entries) ≡ x.is.maps
-    bitmaps-back =
+    pub bitmaps_back : bitmaps_with r.count (numbers_of r.entries) ≡ x.is.maps
+    bitmaps_back =
         ap (bitmaps_with r.count) (sym (contents_numbers s r.entries) ∙ (noted d sound s u r x []).fields.numbers)
-        ∙ maps_back x.is.maps r.count x.is.chained x.is.whole (three d sound s u r x) maps-bytes
+        ∙ maps_back x.is.maps r.count x.is.chained x.is.whole (three d sound s u r x) maps_bytes
 
 pub gives_back : (d : Dialect) → Sound d → GivesBack d
 gives_back d sound =
     record {
-      answers_used = λ s rest out u r bytes x enough. answers d sound s u r x (bitmaps-back d sound s u r x bytes) out enough rest;
-      gives_back = λ s rest out u r bytes x enough. given_back d sound s u r x (bitmaps-back d sound s u r x bytes) out enough rest;
-      read_answers_used = λ s b out u r bytes room x enough. read-answers d sound s u r x (bitmaps-back d sound s u r x bytes) out enough b room;
-      read_gives_back = λ s b out u r bytes room x enough. read-given-back d sound s u r x (bitmaps-back d sound s u r x bytes) out enough b room;
+      answers_used = λ s rest out u r bytes x enough. answers d sound s u r x (bitmaps_back d sound s u r x bytes) out enough rest;
+      gives_back = λ s rest out u r bytes x enough. given_back d sound s u r x (bitmaps_back d sound s u r x bytes) out enough rest;
+      read_answers_used = λ s b out u r bytes room x enough. read_answers d sound s u r x (bitmaps_back d sound s u r x bytes) out enough b room;
+      read_gives_back = λ s b out u r bytes room x enough. read_given_back d sound s u r x (bitmaps_back d sound s u r x bytes) out enough b room;
     }

@@ -163,8 +163,8 @@ module _ {s : List ℕ} {u m : ℕ} {d o : List ℕ} {n : ℕ} {f : List ℕ} {k
     notes_are =
         sym (take-append-drop (length (notes_of plain_form (reading given) u)) notes) ∙ ap (λ (l : List ℕ). l ++ after) noted ∙ simp append_assoc
 
-    pub walked-first : Walked (reading_lines (reading given) u) two notes u two head_size (n + k)
-    walked-first =
+    pub walked_first : Walked (reading_lines (reading given) u) two notes u two head_size (n + k)
+    walked_first =
         record {
           small = omega (arith, used_most given);
           room = omega (arith, lines_room given, headed_size, given.room);

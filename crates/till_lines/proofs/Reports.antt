@@ -51,12 +51,12 @@ module _ (d : Dialect) (s : List ℕ) where
 
   -- a text with too little room, and one with enough in which the lines were written
   module _ (b : List ℕ) where
-    pub report-short : length b < text_room → (0 ≡ report_size d s b) × (b ≡ report_text d s b)
+    pub report_short : length b < text_room → (0 ≡ report_size d s b) × (b ≡ report_text d s b)
     unfolding report_size report_text
-    report-short h = (rw (lt-ltb (length b) text_room h), rw (lt-ltb (length b) text_room h))
+    report_short h = (rw (lt-ltb (length b) text_room h), rw (lt-ltb (length b) text_room h))
 
-    pub report-written : text_room ≤ length b → (lines after : List ℕ) (k : ℕ) → report_of d s ≡ lines → k ≡ length lines → after ≡ lay lines b
+    pub report_written : text_room ≤ length b → (lines after : List ℕ) (k : ℕ) → report_of d s ≡ lines → k ≡ length lines → after ≡ lay lines b
         → (k ≡ report_size d s b) × (after ≡ report_text d s b)
     unfolding report_size report_text
-    report-written h lines after k e hk ha =
+    report_written h lines after k e hk ha =
         (rw (le-ltb (length b) text_room h, e) hk, rw (le-ltb (length b) text_room h, e) ha)

@@ -108,57 +108,57 @@ module _ {whole d notes : List ℕ} {u : ℕ} {o : List ℕ} {at w : ℕ} (c : W
     here : First f p n c.left
     here = field_first u c.small c.after c.left c.fit f p n (ap (note_at plain_form) (sym c.rest) ∙ note)
 
-    lines-here : field_lines c.left ++ used_line u ≡ field_line (entry f p n) ++ (field_lines here.others ++ used_line u)
+    lines_here : field_lines c.left ++ used_line u ≡ field_line (entry f p n) ++ (field_lines here.others ++ used_line u)
     unfolding field_lines
-    lines-here =
+    lines_here =
         ap (λ (es : List Entry). field_lines es ++ used_line u) here.is
         ∙ append_assoc (field_line (entry f p n)) (field_lines here.others) (used_line u)
 
-    notes-here : drop at notes ≡ field_note plain_form (entry f p n) ++ (field_notes plain_form here.others ++ (end_note u ++ c.after))
+    notes_here : drop at notes ≡ field_note plain_form (entry f p n) ++ (field_notes plain_form here.others ++ (end_note u ++ c.after))
     unfolding field_notes
-    notes-here =
+    notes_here =
         c.rest ∙ ap (λ (es : List Entry). field_notes plain_form es ++ (end_note u ++ c.after)) here.is
         ∙ append_assoc (field_note plain_form (entry f p n)) (field_notes plain_form here.others) (end_note u ++ c.after)
 
-    fit-here : AllFit (entry f p n ∷ here.others)
-    fit-here = rw here.is at c.fit
+    fit_here : AllFit (entry f p n ∷ here.others)
+    fit_here = rw here.is at c.fit
 
     pub field_room : length (field_line (entry f p n)) ≤ length (mid_of w (length o - w) o)
-    field_room = line_room (field_line (entry f p n)) (field_lines here.others ++ used_line u) lines-here
+    field_room = line_room (field_line (entry f p n)) (field_lines here.others ++ used_line u) lines_here
 
-    pub field-within : w + length (field_line (entry f p n)) ≤ length whole
-    field-within =
+    pub field_within : w + length (field_line (entry f p n)) ≤ length whole
+    field_within =
         omega (
           arith,
           written_room whole d o _ w c.written,
-          ap length lines-here,
+          ap length lines_here,
           length-append (field_line (entry f p n)) (field_lines here.others ++ used_line u),
         )
 
-    pub field-inside : at + note_size plain_form ≤ length notes
-    field-inside =
+    pub field_inside : at + note_size plain_form ≤ length notes
+    field_inside =
         omega (
           arith,
-          ap length notes-here,
+          ap length notes_here,
           length-drop at notes,
           length-append (field_note plain_form (entry f p n)) (field_notes plain_form here.others ++ (end_note u ++ c.after)),
           field_long plain_form (entry f p n),
         )
 
-    pub walked-field : {g : List ℕ} {k : ℕ} → k ≡ length (field_line (entry f p n)) → g ≡ lay (field_line (entry f p n)) (mid_of w (length o - w) o)
+    pub walked_field : {g : List ℕ} {k : ℕ} → k ≡ length (field_line (entry f p n)) → g ≡ lay (field_line (entry f p n)) (mid_of w (length o - w) o)
         → Walked whole d notes u (put_mid w (length o - w) o g) (at + note_size plain_form) (w + k)
     unfolding AllFit
-    walked-field {g} {k} hk hg =
+    walked_field {g} {k} hk hg =
         record {
           small = c.small;
           room = c.room;
           left = here.others;
           after = c.after;
-          fit = fit-here.1;
+          fit = fit_here.1;
           rest =
-              sym (drop-drop (note_size plain_form) at notes) ∙ ap (drop (note_size plain_form)) notes-here
+              sym (drop-drop (note_size plain_form) at notes) ∙ ap (drop (note_size plain_form)) notes_here
               ∙ drop_at (field_note plain_form (entry f p n)) (field_notes plain_form here.others ++ (end_note u ++ c.after)) (note_size plain_form) (field_long plain_form (entry f p n));
-          written = line_written (field_line (entry f p n)) (field_lines here.others ++ used_line u) g k lines-here hk hg;
+          written = line_written (field_line (entry f p n)) (field_lines here.others ++ used_line u) g k lines_here hk hg;
         }
 
   module _ {v : ℕ} (note : note_at plain_form (drop at notes) ≡ End v) where
@@ -167,8 +167,8 @@ module _ {whole d notes : List ℕ} {u : ℕ} {o : List ℕ} {at w : ℕ} (c : W
     last_line =
         rw (end_last u c.small c.after c.left c.fit v (ap (note_at plain_form) (sym c.rest) ∙ note)) (sym (append-nil (used_line u)))
 
-    pub end-room : length (used_line u) ≤ length (mid_of w (length o - w) o)
-    end-room = line_room (used_line u) [] last_line
+    pub end_room : length (used_line u) ≤ length (mid_of w (length o - w) o)
+    end_room = line_room (used_line u) [] last_line
 
     pub walked_end : {g : List ℕ} {k : ℕ} → k ≡ length (used_line u) → g ≡ lay (used_line u) (mid_of w (length o - w) o)
         → (w + k ≡ length whole) × (put_mid w (length o - w) o g ≡ lay whole d)

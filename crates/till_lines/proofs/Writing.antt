@@ -104,15 +104,15 @@ module _ {mti d x : List ℕ} (c : MtiBegun mti d x) where
   mti_begun_size = as_long (text "mti ") d x word_is (omega (arith, mti_room))
 
   module _ {f : List ℕ} (put : f ≡ placed mti (mid_of 4 (length x - 4) x)) where
-    mti-laid : put_mid 4 (length x - 4) x f ≡ lay (text "mti " ++ mti) d
-    mti-laid = placed_part (text "mti ") mti d x f 4 word_is refl (omega (arith, mti_room)) put
+    mti_laid : put_mid 4 (length x - 4) x f ≡ lay (text "mti " ++ mti) d
+    mti_laid = placed_part (text "mti ") mti d x f 4 word_is refl (omega (arith, mti_room)) put
 
-    pub mti-put-size : length (put_mid 4 (length x - 4) x f) ≡ length d
-    mti-put-size = as_long (text "mti " ++ mti) d _ mti-laid (omega (arith, mti_room))
+    pub mti_put_size : length (put_mid 4 (length x - 4) x f) ≡ length d
+    mti_put_size = as_long (text "mti " ++ mti) d _ mti_laid (omega (arith, mti_room))
 
-    pub mti-ended : set (put_mid 4 (length x - 4) x f) (4 + length mti) newline ≡ lay (mti_line mti) d
+    pub mti_ended : set (put_mid 4 (length x - 4) x f) (4 + length mti) newline ≡ lay (mti_line mti) d
     unfolding mti_line
-    mti-ended = lay_byte (text "mti " ++ mti) d _ (4 + length mti) newline mti-laid (omega arith) (omega (arith, mti_room))
+    mti_ended = lay_byte (text "mti " ++ mti) d _ (4 + length mti) newline mti_laid (omega arith) (omega (arith, mti_room))
 
 -- A line of three words, each with its number.
 pub tripled_long : (a : List ℕ) (x : ℕ) (b : List ℕ) (y : ℕ) (c : List ℕ) (z : ℕ)

@@ -38,13 +38,13 @@ module _ (s : List ℕ) (four : Bool) (four_is : four ≡ are_digits 4 s) where
   date_no_digits t = both_fails four _ _ four_is t
 
   module _ (t : not four ≡ false) (month : Bool) (month-is : month ≡ between 1 12 (pair 0 s)) where
-    pub date-no-month : not month ≡ true → false ≡ is_date s
+    pub date_no_month : not month ≡ true → false ≡ is_date s
     unfolding is_date
-    date-no-month u = both_goes four _ _ false four_is t (both_fails month _ _ month-is u)
+    date_no_month u = both_goes four _ _ false four_is t (both_fails month _ _ month-is u)
 
-    pub date-day : not month ≡ false → (day : Bool) → day ≡ between 1 31 (pair 2 s) → day ≡ is_date s
+    pub date_day : not month ≡ false → (day : Bool) → day ≡ between 1 31 (pair 2 s) → day ≡ is_date s
     unfolding is_date
-    date-day u day day-is = both_goes four _ _ day four_is t (both_goes month _ _ day month-is u day-is)
+    date_day u day day-is = both_goes four _ _ day four_is t (both_goes month _ _ day month-is u day-is)
 
 -- A time of day: digits, hour, minute, second.
 module _ (s : List ℕ) (six : Bool) (six-is : six ≡ are_digits 6 s) where
@@ -53,18 +53,18 @@ module _ (s : List ℕ) (six : Bool) (six-is : six ≡ are_digits 6 s) where
   time_no_digits t = both_fails six _ _ six-is t
 
   module _ (t : not six ≡ false) (hour : Bool) (hour-is : hour ≡ between 0 23 (pair 0 s)) where
-    pub time-no-hour : not hour ≡ true → false ≡ is_time s
+    pub time_no_hour : not hour ≡ true → false ≡ is_time s
     unfolding is_time
-    time-no-hour u = both_goes six _ _ false six-is t (both_fails hour _ _ hour-is u)
+    time_no_hour u = both_goes six _ _ false six-is t (both_fails hour _ _ hour-is u)
 
     module _ (u : not hour ≡ false) (minute : Bool) (minute-is : minute ≡ between 0 59 (pair 2 s)) where
-      pub time-no-minute : not minute ≡ true → false ≡ is_time s
+      pub time_no_minute : not minute ≡ true → false ≡ is_time s
       unfolding is_time
-      time-no-minute w = both_goes six _ _ false six-is t (both_goes hour _ _ false hour-is u (both_fails minute _ _ minute-is w))
+      time_no_minute w = both_goes six _ _ false six-is t (both_goes hour _ _ false hour-is u (both_fails minute _ _ minute-is w))
 
-      pub time-second : not minute ≡ false → (second : Bool) → second ≡ between 0 59 (pair 4 s) → second ≡ is_time s
+      pub time_second : not minute ≡ false → (second : Bool) → second ≡ between 0 59 (pair 4 s) → second ≡ is_time s
       unfolding is_time
-      time-second w second second_is = both_goes six _ _ second six-is t (both_goes hour _ _ second hour-is u (both_goes minute _ _ second minute-is w second_is))
+      time_second w second second_is = both_goes six _ _ second six-is t (both_goes hour _ _ second hour-is u (both_goes minute _ _ second minute-is w second_is))
 
 -- What the two checks answer.
 module _ (s : List ℕ) where

@@ -22,18 +22,18 @@ module _ (f : ℕ) (s : List ℕ) where
   value_pan e n p = p ∙ rw e
 
   module _ (other : f ≡ 2 → ⊥) (amount : Bool) (amount-is : amount ≡ is_amount_field f) where
-    pub value-free : not amount ≡ true → 0 ≡ first_failing (value_tests f s)
+    pub value_free : not amount ≡ true → 0 ≡ first_failing (value_tests f s)
     unfolding value_tests
-    value-free u = rw (ne_eqb f 2 other, ← amount-is, not-true amount u)
+    value_free u = rw (ne_eqb f 2 other, ← amount-is, not-true amount u)
 
     module _ (u : not amount ≡ false) (zeros : Bool) (zeros-are : zeros ≡ is_zeros s) where
-      pub value-zero : zeros ≡ true → amount_zero ≡ first_failing (value_tests f s)
+      pub value_zero : zeros ≡ true → amount_zero ≡ first_failing (value_tests f s)
       unfolding value_tests
-      value-zero z = rw (ne_eqb f 2 other, ← amount-is, not-false amount u, ← zeros-are, z)
+      value_zero z = rw (ne_eqb f 2 other, ← amount-is, not-false amount u, ← zeros-are, z)
 
-      pub value-some : zeros ≡ false → 0 ≡ first_failing (value_tests f s)
+      pub value_some : zeros ≡ false → 0 ≡ first_failing (value_tests f s)
       unfolding value_tests
-      value-some z = rw (ne_eqb f 2 other, ← amount-is, not-false amount u, ← zeros-are, z)
+      value_some z = rw (ne_eqb f 2 other, ← amount-is, not-false amount u, ← zeros-are, z)
 
 -- Which fields are amounts.
 pub amount_four : (f : ℕ) → f ≡ 4 → true ≡ is_amount_field f
@@ -49,18 +49,18 @@ module _ (t : Table) (f : ℕ) (s : List ℕ) (known : Bool) (Known-is : known �
   field_unknown u = rw (← Known-is, not-true known u)
 
   module _ (k : not known ≡ false) (class : Class) (class_is : class ≡ t.class f) (kept : Bool) (kept-is : kept ≡ conforms class s) where
-    pub field-broken : not kept ≡ true → class_broken ≡ field_fault t f s
+    pub field_broken : not kept ≡ true → class_broken ≡ field_fault t f s
     unfolding field_fault field_tests
-    field-broken u = rw (← Known-is, not-false known k, ← class_is, ← kept-is, not-true kept u)
+    field_broken u = rw (← Known-is, not-false known k, ← class_is, ← kept-is, not-true kept u)
 
     module _ (c : not kept ≡ false) (fits : Bool) (fits-is : fits ≡ is_allowed_length t f (length s)) where
-      pub field-length : not fits ≡ true → length_not_allowed ≡ field_fault t f s
+      pub field_length : not fits ≡ true → length_not_allowed ≡ field_fault t f s
       unfolding field_fault field_tests
-      field-length u = rw (← Known-is, not-false known k, ← class_is, ← kept-is, not-false kept c, ← fits-is, not-true fits u)
+      field_length u = rw (← Known-is, not-false known k, ← class_is, ← kept-is, not-false kept c, ← fits-is, not-true fits u)
 
-      pub field-value : not fits ≡ false → (n : ℕ) → n ≡ first_failing (value_tests f s) → n ≡ field_fault t f s
+      pub field_value : not fits ≡ false → (n : ℕ) → n ≡ first_failing (value_tests f s) → n ≡ field_fault t f s
       unfolding field_fault field_tests
-      field-value u n e = rw (← Known-is, not-false known k, ← class_is, ← kept-is, not-false kept c, ← fits-is, not-false fits u) e
+      field_value u n e = rw (← Known-is, not-false known k, ← class_is, ← kept-is, not-false kept c, ← fits-is, not-false fits u) e
 
 -- by the table that are lent
 pub fault_as : (t u : Table) (f : ℕ) (s : List ℕ) (r : ℕ) → t ≡ u → r ≡ field_fault t f s → r ≡ field_fault u f s

@@ -14,7 +14,7 @@ use Rattle.message_reader.proofs.Small.{entries_fit, used_small}
 use Rattle.message_walk.specs.Walk.{walked, entries_in}
 use Rattle.message_walk.specs.Faults.{any, within}
 use Rattle.message_walk.proofs.Written.{mti_in_lem}
-use Rattle.message_walk.proofs.Behind.{behind-walked, behind-entries}
+use Rattle.message_walk.proofs.Behind.{behind_walked, behind_entries}
 use Rattle.message_lookup.specs.Lookup.{looked_up}
 use Rattle.validation_required.specs.Required.{is_present, required_by, required_in}
 use Rattle.validation_required.specs.Behind.{ChecksNotesAlone, HouseChecks}
@@ -40,13 +40,13 @@ module _ (d : Dialect) (sound : Sound d) (s v rest : List ℕ) (u : ℕ) (r : Re
 
   walks : walked d (within v any) notes ≡ walked d (within v any) bare
   walks =
-      behind-walked d sound.apart sound.spelt (within v any) r u x.is.four x.is.digits least three x.is.few used_fits
+      behind_walked d sound.apart sound.spelt (within v any) r u x.is.four x.is.digits least three x.is.few used_fits
       (entries_fit d sound x.message r x.is) rest []
       ∙ ap (walked d (within v any)) (append-nil bare)
 
   entries : entries_in d (within v any) notes ≡ entries_in d (within v any) bare
   entries =
-      behind-entries d sound.apart sound.spelt (within v any) r u x.is.four x.is.digits least three x.is.few used_fits
+      behind_entries d sound.apart sound.spelt (within v any) r u x.is.four x.is.digits least three x.is.few used_fits
       (entries_fit d sound x.message r x.is) rest []
       ∙ ap (entries_in d (within v any)) (append-nil bare)
 

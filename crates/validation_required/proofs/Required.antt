@@ -70,23 +70,23 @@ module _ (p : ℕ → Bool) (m : List ℕ) (a : Bool) (a-is : a ≡ p 3) where
   no_3 u = rw (← a-is, not-true a u)
 
   module _ (h : not a ≡ false) (b : Bool) (b-is : b ≡ p 11) where
-    pub no-11 : not b ≡ true → 11 ≡ first_missing p (required_by m)
+    pub no_11 : not b ≡ true → 11 ≡ first_missing p (required_by m)
     unfolding required_by first_missing
-    no-11 u = rw (← a-is, not-false a h, ← b-is, not-true b u)
+    no_11 u = rw (← a-is, not-false a h, ← b-is, not-true b u)
 
     module _ (i : not b ≡ false) (c : Bool) (c-is : c ≡ p 12) where
-      pub no-12 : not c ≡ true → 12 ≡ first_missing p (required_by m)
+      pub no_12 : not c ≡ true → 12 ≡ first_missing p (required_by m)
       unfolding required_by first_missing
-      no-12 u = rw (← a-is, not-false a h, ← b-is, not-false b i, ← c-is, not-true c u)
+      no_12 u = rw (← a-is, not-false a h, ← b-is, not-false b i, ← c-is, not-true c u)
 
       module _ (j : not c ≡ false) (d : Bool) (d-is : d ≡ p 13) where
-        pub no-13 : not d ≡ true → 13 ≡ first_missing p (required_by m)
+        pub no_13 : not d ≡ true → 13 ≡ first_missing p (required_by m)
         unfolding required_by first_missing
-        no-13 u = rw (← a-is, not-false a h, ← b-is, not-false b i, ← c-is, not-false c j, ← d-is, not-true d u)
+        no_13 u = rw (← a-is, not-false a h, ← b-is, not-false b i, ← c-is, not-false c j, ← d-is, not-true d u)
 
-        pub behind-13 : not d ≡ false → (f : ℕ) → f ≡ first_missing p (required_more m) → f ≡ first_missing p (required_by m)
+        pub behind_13 : not d ≡ false → (f : ℕ) → f ≡ first_missing p (required_more m) → f ≡ first_missing p (required_by m)
         unfolding required_by first_missing
-        behind-13 u f e = rw (← a-is, not-false a h, ← b-is, not-false b i, ← c-is, not-false c j, ← d-is, not-false d u) e
+        behind_13 u f e = rw (← a-is, not-false a h, ← b-is, not-false b i, ← c-is, not-false c j, ← d-is, not-false d u) e
 
 -- Card and amount, of a request.
 module _ (p : ℕ → Bool) (m : List ℕ) (card : Bool) (card-is : card ≡ is_card_request m) where
@@ -95,18 +95,18 @@ module _ (p : ℕ → Bool) (m : List ℕ) (card : Bool) (card-is : card ≡ is_
   no_card u f e = rw (← card-is, not-true card u) e
 
   module _ (h : not card ≡ false) (a : Bool) (a-is : a ≡ p 2) where
-    pub no-2 : not a ≡ true → 2 ≡ first_missing p (required_more m)
+    pub no_2 : not a ≡ true → 2 ≡ first_missing p (required_more m)
     unfolding required_more first_missing
-    no-2 u = rw (← card-is, not-false card h, ← a-is, not-true a u)
+    no_2 u = rw (← card-is, not-false card h, ← a-is, not-true a u)
 
     module _ (i : not a ≡ false) (b : Bool) (b-is : b ≡ p 4) where
-      pub no-4 : not b ≡ true → 4 ≡ first_missing p (required_more m)
+      pub no_4 : not b ≡ true → 4 ≡ first_missing p (required_more m)
       unfolding required_more first_missing
-      no-4 u = rw (← card-is, not-false card h, ← a-is, not-false a i, ← b-is, not-true b u)
+      no_4 u = rw (← card-is, not-false card h, ← a-is, not-false a i, ← b-is, not-true b u)
 
-      pub behind-4 : not b ≡ false → (f : ℕ) → f ≡ first_missing p (required_of_response m) → f ≡ first_missing p (required_more m)
+      pub behind_4 : not b ≡ false → (f : ℕ) → f ≡ first_missing p (required_of_response m) → f ≡ first_missing p (required_more m)
       unfolding required_more first_missing
-      behind-4 u f e = rw (← card-is, not-false card h, ← a-is, not-false a i, ← b-is, not-false b u) e
+      behind_4 u f e = rw (← card-is, not-false card h, ← a-is, not-false a i, ← b-is, not-false b u) e
 
 -- The response code, of a response.
 module _ (p : ℕ → Bool) (m : List ℕ) (response : Bool) (response-is : response ≡ is_response m) where
@@ -115,9 +115,9 @@ module _ (p : ℕ → Bool) (m : List ℕ) (response : Bool) (response-is : resp
   no_response u = rw (← response-is, not-true response u)
 
   module _ (h : not response ≡ false) (a : Bool) (a-is : a ≡ p 39) where
-    pub no-39 : not a ≡ true → 39 ≡ first_missing p (required_of_response m)
+    pub no_39 : not a ≡ true → 39 ≡ first_missing p (required_of_response m)
     unfolding required_of_response first_missing
-    no-39 u = rw (← response-is, not-false response h, ← a-is, not-true a u)
+    no_39 u = rw (← response-is, not-false response h, ← a-is, not-true a u)
 
     pub all_there : not a ≡ false → 0 ≡ first_missing p (required_of_response m)
     unfolding required_of_response first_missing
@@ -144,20 +144,20 @@ module _ (d : Dialect) (v n : List ℕ) (w : Walked) (e : w ≡ walked d (within
     head : Head d.most n
     head = good_head d.most n (ended_head d (within v any) n at u ended)
 
-    is-mti : mti ≡ mti_in n
-    is-mti = part ∙ ap (λ (b : Bool). cond b (mti_in n) []) (le-leb head_size (length n) head.whole)
+    is_mti : mti ≡ mti_in n
+    is_mti = part ∙ ap (λ (b : Bool). cond b (mti_in n) []) (le-leb head_size (length n) head.whole)
 
-    pub required-mti : length mti ≡ 4
-    required-mti = ap length is-mti ∙ head.four
+    pub required_mti : length mti ≡ 4
+    required_mti = ap length is_mti ∙ head.four
 
     module _ (s : List ℕ) (is-gathered : s ≡ fields_in d (within v any) n) where
-      is-missing : first_missing (has_field s) (required_by mti) ≡ first_missing (is_present d v n) (required_by (mti_in n))
-      is-missing =
-          ap (λ (m : List ℕ). first_missing (has_field s) (required_by m)) is-mti
+      is_missing : first_missing (has_field s) (required_by mti) ≡ first_missing (is_present d v n) (required_by (mti_in n))
+      is_missing =
+          ap (λ (m : List ℕ). first_missing (has_field s) (required_by m)) is_mti
           ∙ same_missing (has_field s) (is_present d v n)
           (λ f z. ap (λ (x : List ℕ). has_field x f) is-gathered ∙ has_present d v n at u ended f z)
           (required_by (mti_in n)) (required_fields (mti_in n))
 
-      pub required-walked : (f : ℕ) → f ≡ first_missing (has_field s) (required_by mti) → (c : Checked) → c ≡ missing_answer f → c ≡ required_in d v n
+      pub required_walked : (f : ℕ) → f ≡ first_missing (has_field s) (required_by mti) → (c : Checked) → c ≡ missing_answer f → c ≡ required_in d v n
       unfolding required_in required_after
-      required-walked f q c k = rw (required_in, ended) (k ∙ ap missing_answer (q ∙ is-missing))
+      required_walked f q c k = rw (required_in, ended) (k ∙ ap missing_answer (q ∙ is_missing))

@@ -2,7 +2,7 @@
 use Prim.Native.Nat.{◌-◌}
 use mathlib.Core.Path.{◌≡◌}
 use native.Mathlib.Omega.{arith}
-use Rattle.bitmap.proofs.Listed.{Listing, listing_none, listing-fits, listing-more, listing_end, Bit, first_bit}
+use Rattle.bitmap.proofs.Listed.{Listing, listing_none, listing_fits, listing_more, listing_end, Bit, first_bit}
 use borrow.Author.Rules.{rules}
 use Rattle.bitmap.proofs.list_bits.Statement.{statement}
 use Rattle.bitmap.proofs.list_bits.Tie as tie
@@ -35,7 +35,7 @@ cast-numbers : tie.Need-overflow-cast-numbers invariant-loop decreases-loop
 cast-numbers c = omega (arith, bit c)
 
 slice-write-numbers : tie.Need-slice-write-numbers invariant-loop decreases-loop
-slice-write-numbers c = search (listing-fits, some c, rules)
+slice-write-numbers c = search (listing_fits, some c, rules)
 
 sub-rest : tie.Need-overflow-sub-rest invariant-loop decreases-loop
 sub-rest c = omega (arith, bit c)
@@ -47,7 +47,7 @@ loop-less : tie.Need-loop-smaller invariant-loop decreases-loop
 loop-less c = omega (arith, bit c)
 
 loop-again : tie.Need-loop-preserved invariant-loop decreases-loop
-loop-again c = search (listing-more, some c, rules)
+loop-again c = search (listing_more, some c, rules)
 
 returns : tie.Need-returns invariant-loop decreases-loop
 returns c = listing_end _ _ _ _ _ _ c.before.loop.invariant (search rules) (omega (arith, c.loop-test.false))

@@ -1,6 +1,6 @@
 -- A conversion has three ends: the source fails, the output is too short, or the bytes are written.
 use lib.ListN.{length-map}
-use Rattle.refusal.proofs.Conversions.{refused_answer, refused_output, short-answer, short-output, done-answer, done_output, answer_tells}
+use Rattle.refusal.proofs.Conversions.{refused_answer, refused_output, short_answer, short_output, done_answer, done_output, answer_tells}
 use Rattle.encoding_ebcdic.specs.Ebcdic.{table}
 use Rattle.encoding_ebcdic.proofs.Permutation.{table_lays}
 use borrow.Author.Rules.{rules}
@@ -15,11 +15,11 @@ returns : tie.Need-returns
 returns c = answer_tells (search (refused_answer, rules)) (search (refused_output, rules))
 
 returns-2 : tie.Need-returns-2
-returns-2 c = answer_tells (search (short-answer, length-map, rules)) (search (short-output, length-map, rules))
+returns-2 c = answer_tells (search (short_answer, length-map, rules)) (search (short_output, length-map, rules))
 
 returns-3 : tie.Need-returns-3
 unfolding table
-returns-3 c = answer_tells (search (done-answer, length-map, rules)) (search (done_output, table_lays, length-map, rules))
+returns-3 c = answer_tells (search (done_answer, length-map, rules)) (search (done_output, table_lays, length-map, rules))
 
 pub decode-spec : {M : Type 1} → statement M
 decode-spec =

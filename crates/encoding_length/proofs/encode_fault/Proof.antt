@@ -1,6 +1,6 @@
 -- The count is not allowed, or the length is below the power of ten or not.
 use Rattle.octets.proofs.Cases.{tested_true}
-use Rattle.encoding_length.proofs.Widths.{count_wrong, length-fits, length-long}
+use Rattle.encoding_length.proofs.Widths.{count_wrong, length_fits, length_long}
 use borrow.Author.Rules.{rules}
 use Rattle.encoding_length.proofs.encode_fault.Statement.{statement}
 use Rattle.encoding_length.proofs.encode_fault.Tie as tie
@@ -12,10 +12,10 @@ least-too-long-requires : tie.Need-least-too-long-requires
 least-too-long-requires c κs = search (tested_true, rules)
 
 returns-2 : tie.Need-returns-2
-returns-2 c = search (length-fits, rules)
+returns-2 c = search (length_fits, rules)
 
 returns-3 : tie.Need-returns-3
-returns-3 c = search (length-long, rules)
+returns-3 c = search (length_long, rules)
 
 pub encode-fault-spec : {M : Type 1} → statement M
 encode-fault-spec =

@@ -3,7 +3,7 @@ use mathlib.Core.Path.{sym}
 use Prim.Native.Nat.{◌-◌}
 use lib.ListN.{length-take}
 use lib.Seq.{length-take-le}
-use Rattle.field_read.proofs.Items.{item_cut, item-no-digit, item_long, item-past, item-high, item_read}
+use Rattle.field_read.proofs.Items.{item_cut, item_no_digit, item_long, item_past, item_high, item_read}
 use borrow.Author.Rules.{rules}
 use native.Mathlib.Omega.{arith}
 use Rattle.field_read.proofs.read_item.Statement.{statement}
@@ -16,7 +16,7 @@ slice-aggregate-digits : tie.Need-slice-aggregate-digits
 slice-aggregate-digits c = sym (length-take-le _ c.before.before.before.args.rest.now c.before.if1.false)
 
 returns-2 : tie.Need-returns-2
-returns-2 c = search (item-no-digit, rules)
+returns-2 c = search (item_no_digit, rules)
 
 content-length-requires : tie.Need-content-length-requires
 content-length-requires c κs = simp length-take (omega arith)
@@ -25,10 +25,10 @@ returns-3 : tie.Need-returns-3
 returns-3 c = search (item_long, rules)
 
 returns-4 : tie.Need-returns-4
-returns-4 c = search (item-past, rules)
+returns-4 c = search (item_past, rules)
 
 returns-5 : tie.Need-returns-5
-returns-5 c = search (item-high, rules)
+returns-5 c = search (item_high, rules)
 
 returns-6 : tie.Need-returns-6
 returns-6 c =

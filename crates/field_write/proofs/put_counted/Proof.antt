@@ -3,7 +3,7 @@ use mathlib.Core.Path.{refl}
 use lib.ListN.{length}
 use Rattle.octets.specs.Numbers.{decimal}
 use Rattle.octets.proofs.Numbers.{digits_length}
-use Rattle.field_write.proofs.Writing.{first_short, second_short, both-placed}
+use Rattle.field_write.proofs.Writing.{first_short, second_short, both_placed}
 use borrow.Author.Rules.{rules}
 use Rattle.field_write.proofs.put_counted.Statement.{statement}
 use Rattle.field_write.proofs.put_counted.Tie as tie
@@ -24,7 +24,7 @@ returns-3 c =
     let first = second.before.before.before.before in
     let room = first.before.before in
     let a = room.before.before.before.before.args in
-    both-placed (decimal a.width (length a.content.now)) a.content.now _ _ (digits_length _ _ _ _) room.before.if1.false _ refl room.if2.false _ _ first.put-decimal.ensures second.put.ensures
+    both_placed (decimal a.width (length a.content.now)) a.content.now _ _ (digits_length _ _ _ _) room.before.if1.false _ refl room.if2.false _ _ first.put-decimal.ensures second.put.ensures
 
 pub put-counted-spec : {M : Type 1} → statement M
 put-counted-spec =

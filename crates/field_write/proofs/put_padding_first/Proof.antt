@@ -1,7 +1,7 @@
 -- Two parts, the second in the rest of the output.
 use mathlib.Core.Path.{refl}
 use lib.ListN.{replicate, length-replicate}
-use Rattle.field_write.proofs.Writing.{first_short, second_short, both-placed}
+use Rattle.field_write.proofs.Writing.{first_short, second_short, both_placed}
 use borrow.Author.Rules.{rules}
 use Rattle.field_write.proofs.put_padding_first.Statement.{statement}
 use Rattle.field_write.proofs.put_padding_first.Tie as tie
@@ -22,7 +22,7 @@ returns-3 c =
     let first = second.before.before.before.before in
     let room = first.before.before in
     let a = room.before.before.before.before.args in
-    both-placed (replicate a.pad a.b) a.content.now _ _ (length-replicate _ _) room.before.if1.false _ refl room.if2.false _ _ first.fill.ensures second.put.ensures
+    both_placed (replicate a.pad a.b) a.content.now _ _ (length-replicate _ _) room.before.if1.false _ refl room.if2.false _ _ first.fill.ensures second.put.ensures
 
 pub put-padding-first-spec : {M : Type 1} → statement M
 put-padding-first-spec =

@@ -1,7 +1,7 @@
 -- Two parts, the second in the rest of the output.
 use mathlib.Core.Path.{refl}
 use lib.ListN.{replicate, length-replicate}
-use Rattle.field_write.proofs.Writing.{first_short, second_short, both-placed}
+use Rattle.field_write.proofs.Writing.{first_short, second_short, both_placed}
 use borrow.Author.Rules.{rules}
 use Rattle.field_write.proofs.put_padding_last.Statement.{statement}
 use Rattle.field_write.proofs.put_padding_last.Tie as tie
@@ -22,7 +22,7 @@ returns-3 c =
     let first = second.before.before.before.before in
     let room = first.before.before in
     let a = room.before.before.before.before.args in
-    both-placed a.content.now (replicate a.pad a.b) _ _ refl room.before.if1.false _ (length-replicate _ _) room.if2.false _ _ first.put.ensures second.fill.ensures
+    both_placed a.content.now (replicate a.pad a.b) _ _ refl room.before.if1.false _ (length-replicate _ _) room.if2.false _ _ first.put.ensures second.fill.ensures
 
 pub put-padding-last-spec : {M : Type 1} → statement M
 put-padding-last-spec =

@@ -4,8 +4,8 @@ use lib.ListN.{length}
 use native.Mathlib.Omega.{arith}
 use Rattle.message_notes.specs.Dialect.{plain_form}
 use Rattle.message_walk.specs.Walk.{listed_in}
-use Rattle.message_walk.proofs.Loops.{Reading, reading_first, Read, read_malformed, read_end, read-room, read_here, read_next}
-use Rattle.message_lookup.proofs.Finding.{Finding, finding_first, finding_none, finding-here, finding-next}
+use Rattle.message_walk.proofs.Loops.{Reading, reading_first, Read, read_malformed, read_end, read_room, read_here, read_next}
+use Rattle.message_lookup.proofs.Finding.{Finding, finding_first, finding_none, finding_here, finding_next}
 use borrow.Author.Rules.{rules}
 use Rattle.message_lookup.proofs.find.Statement.{statement}
 use Rattle.message_lookup.proofs.find.Tie as tie
@@ -43,19 +43,19 @@ returns-2 : tie.Need-returns-2 invariant-loop decreases-loop
 returns-2 c = finding_none (read_end (turn_at c.before.before.before) c.before.enum-told2.given.1) c.absent2.ensures
 
 returns-3 : tie.Need-returns-3 invariant-loop decreases-loop
-returns-3 c = let k = c.before.before in finding-here (read_here (turn_at k.before.before) k.here.given.1) c.if1.true
+returns-3 c = let k = c.before.before in finding_here (read_here (turn_at k.before.before) k.here.given.1) c.if1.true
 
 add_at : tie.Need-overflow-add-at invariant-loop decreases-loop
-add_at c = let k = c.before.before in omega (arith, read-room (turn_at k.before.before) k.here.given.1, (start (here k.before.before)).good.0)
+add_at c = let k = c.before.before in omega (arith, read_room (turn_at k.before.before) k.here.given.1, (start (here k.before.before)).good.0)
 
 loop-less : tie.Need-loop-smaller invariant-loop decreases-loop
-loop-less c = let k = c.before.before in omega (arith, read-room (turn_at k.before.before) k.here.given.1)
+loop-less c = let k = c.before.before in omega (arith, read_room (turn_at k.before.before) k.here.given.1)
 
 loop-again : tie.Need-loop-preserved invariant-loop decreases-loop
 loop-again c =
     let k = turn_at c.before.before.before.before in
     let is = c.before.before.here.given.1 in
-    read_next k is (finding-next (read_here k is) c.if1.false)
+    read_next k is (finding_next (read_here k is) c.if1.false)
 
 returns-4 : tie.Need-returns-4 invariant-loop decreases-loop
 returns-4 c = absurd (omega (arith, c.before.loop-test.false, c.before.before.loop.invariant.inside))

@@ -3,7 +3,7 @@ use Prim.Native.Nat.{◌-◌}
 use mathlib.Core.Path.{refl, sym}
 use native.Mathlib.Omega.{arith}
 use lib.Seq.{length-take-le}
-use Rattle.message_reader.proofs.Answers.{head_few, head-room}
+use Rattle.message_reader.proofs.Answers.{head_few, head_room}
 use Rattle.message_reader.proofs.Noting.{list_is, list_few}
 use borrow.Author.Rules.{rules}
 use Rattle.message_reader.proofs.read_by.Statement.{statement}
@@ -16,7 +16,7 @@ add_start : tie.Need-overflow-add-start
 add_start c = omega (arith, head_few _ _ _ c.before.before.before.requires.0 (omega arith))
 
 part-list-fields-end : tie.Need-slice-bounds-list-fields-end
-part-list-fields-end c = omega (arith, head-room _ _ _ c.before.before.before.requires.0 (omega arith))
+part-list-fields-end c = omega (arith, head_room _ _ _ c.before.before.before.requires.0 (omega arith))
 
 array-share-prefix-numbers : tie.Need-array-share-prefix-numbers
 array-share-prefix-numbers c =

@@ -3,7 +3,7 @@ use Prim.Native.Nat.{◌-◌}
 use lib.ListN.{length}
 use Rattle.field_table.specs.Codes.{decoded}
 use Rattle.message_reader.specs.Reader.{read_fields}
-use Rattle.message_reader.proofs.Turns.{Met, met, Scanned, scan_first, scan-refused, scan-within, scan-read, scan_end}
+use Rattle.message_reader.proofs.Turns.{Met, met, Scanned, scan_first, scan_refused, scan_within, scan_read, scan_end}
 use borrow.Author.Rules.{rules}
 use native.Mathlib.Omega.{arith}
 use Rattle.message_reader.proofs.read_fields.Statement.{statement}
@@ -31,17 +31,17 @@ met_at c = met _ _ _ _ _ _ _ c.before.before.before.before.loop-test.true c.befo
 returns : tie.Need-returns invariant-loop decreases-loop
 returns c =
     let k = c.before.before.before in
-    scan-refused (here k).loop.invariant (met_at k) c.before.number.given.1
+    scan_refused (here k).loop.invariant (met_at k) c.before.number.given.1
 
 add_at : tie.Need-overflow-add-at invariant-loop decreases-loop
 add_at c =
     let k = c.before.before.before in
-    omega (arith, scan-within (here k).loop.invariant (met_at k) c.before.start.given.1)
+    omega (arith, scan_within (here k).loop.invariant (met_at k) c.before.start.given.1)
 
 add-at-2 : tie.Need-overflow-add-at-2 invariant-loop decreases-loop
 add-at-2 c =
     let k = c.before.before.before in
-    omega (arith, scan-within (here k).loop.invariant (met_at k) c.before.start.given.1)
+    omega (arith, scan_within (here k).loop.invariant (met_at k) c.before.start.given.1)
 
 loop-less : tie.Need-loop-smaller invariant-loop decreases-loop
 loop-less c = omega (arith, c.before.before.before.before.before.before.before.loop-test.true)
@@ -49,7 +49,7 @@ loop-less c = omega (arith, c.before.before.before.before.before.before.before.l
 loop-again : tie.Need-loop-preserved invariant-loop decreases-loop
 loop-again c =
     let k = c.before.before.before in
-    scan-read (here k).loop.invariant (met_at k) c.before.start.given.1
+    scan_read (here k).loop.invariant (met_at k) c.before.start.given.1
 
 returns-2 : tie.Need-returns-2 invariant-loop decreases-loop
 unfolding read_fields

@@ -2,7 +2,7 @@
 use mathlib.Core.Path.{sym}
 use Prim.Native.Nat.{◌-◌}
 use lib.Seq.{length-take-le}
-use Rattle.message_reader.proofs.Heads.{head_short, head-no-digit, head-maps}
+use Rattle.message_reader.proofs.Heads.{head_short, head_no_digit, head_maps}
 use borrow.Author.Rules.{rules}
 use native.Mathlib.Omega.{arith}
 use Rattle.message_reader.proofs.read_head.Statement.{statement}
@@ -15,10 +15,10 @@ slice-aggregate-lead-between : tie.Need-slice-aggregate-lead-between
 slice-aggregate-lead-between c = sym (length-take-le 4 c.before.before.before.args.message.now (omega arith))
 
 returns-2 : tie.Need-returns-2
-returns-2 c = search (head-no-digit, rules)
+returns-2 c = search (head_no_digit, rules)
 
 returns-3 : tie.Need-returns-3
-returns-3 c = search (head-maps, rules)
+returns-3 c = search (head_maps, rules)
 
 pub read-head-spec : {M : Type 1} → statement M
 read-head-spec =

@@ -1,7 +1,7 @@
 -- One law for each end, in Answers, over the table that is lent.
 use mathlib.Core.Path.{◌≡◌, sym, ◌∙◌}
 use Prim.Native.Nat.{◌-◌}
-use Rattle.message_reader.proofs.Answers.{head_few, head-room, ends-refused, ends_read}
+use Rattle.message_reader.proofs.Answers.{head_few, head_room, ends-refused, ends_read}
 use Rattle.message_reader.proofs.Noting.{body_is}
 use Rattle.field_table.specs.Codes.{decoded}
 use Rattle.message_reader.specs.Reader.{read_body}
@@ -20,7 +20,7 @@ add-read-fields : tie.Need-overflow-add-read-fields
 add-read-fields c = omega (arith, head_few _ _ _ c.before.before.before.before.requires.0 (omega arith))
 
 read-fields-requires : tie.Need-read-fields-requires
-read-fields-requires c κs = head-room _ _ _ c.before.before.before.before.requires.0 (omega arith)
+read-fields-requires c κs = head_room _ _ _ c.before.before.before.before.requires.0 (omega arith)
 
 -- what reading the fields answered, of the message
 body : (c : tie.After-read-fields) → read_body (decoded (start c).args.table.now) (start c).args.message.now (start c).args.bitmaps ≡ c.read-fields.result
@@ -30,7 +30,7 @@ write-notes-requires : tie.Need-write-notes-requires
 write-notes-requires c κs =
     let rf = c.before.before.before.before in
     let p = (start rf).requires in
-    (head_few _ _ _ p.0 (omega arith), (head-room _ _ _ p.0 (omega arith), (p.1.0, (p.1.1, body rf ∙ c.before.before.used.given.1))))
+    (head_few _ _ _ p.0 (omega arith), (head_room _ _ _ p.0 (omega arith), (p.1.0, (p.1.1, body rf ∙ c.before.before.used.given.1))))
 
 returns : tie.Need-returns
 returns c =

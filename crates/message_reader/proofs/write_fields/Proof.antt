@@ -4,7 +4,7 @@ use lib.ListN.{length}
 use Rattle.field_table.specs.Codes.{decoded}
 use Rattle.message_notes.specs.Dialect.{plain_form}
 use Rattle.message_reader.proofs.Turns.{Met}
-use Rattle.message_reader.proofs.Noting.{Noted, noted_first, noted_met, noted-refused, noted-room, noted-within, noted_read, noted_end}
+use Rattle.message_reader.proofs.Noting.{Noted, noted_first, noted_met, noted_refused, noted_room, noted_within, noted_read, noted_end}
 use borrow.Author.Rules.{rules}
 use native.Mathlib.Omega.{arith}
 use Rattle.message_reader.proofs.write_fields.Statement.{statement}
@@ -35,22 +35,22 @@ same_length c = (here c.before.before).loop.inv.written.size
 returns : tie.Need-returns invariant-loop decreases-loop
 returns c =
     let k = c.before.before in
-    noted-refused (here k).loop.invariant (met_at k) c.enum_told.given.1
+    noted_refused (here k).loop.invariant (met_at k) c.enum_told.given.1
 
 add-put-field : tie.Need-overflow-add-put-field invariant-loop decreases-loop
 add-put-field c =
     let k = c.before.before.before in
-    omega (arith, noted-within (here k).loop.invariant (met_at k) c.before.start.given.1)
+    omega (arith, noted_within (here k).loop.invariant (met_at k) c.before.start.given.1)
 
 sub-put-field : tie.Need-overflow-sub-put-field invariant-loop decreases-loop
 sub-put-field c =
     let k = c.before.before.before in
-    omega (arith, noted-room (here k).loop.invariant (met_at k))
+    omega (arith, noted_room (here k).loop.invariant (met_at k))
 
 part-put-field-start : tie.Need-slice-bounds-put-field-start invariant-loop decreases-loop
 part-put-field-start c =
     let k = c.before.before.before in
-    omega (arith, noted-room (here k).loop.invariant (met_at k))
+    omega (arith, noted_room (here k).loop.invariant (met_at k))
 
 -- the note is put
 abbrev put : tie.After-slice-known2 invariant-loop decreases-loop → tie.After-start invariant-loop decreases-loop
@@ -59,17 +59,17 @@ put c = c.before.before.before.before.before
 add_at : tie.Need-overflow-add-at invariant-loop decreases-loop
 add_at c =
     let k = (put c).before.before in
-    omega (arith, noted-within (here k).loop.inv (met_at k) (put c).start.given.1, (start k).good.0)
+    omega (arith, noted_within (here k).loop.inv (met_at k) (put c).start.given.1, (start k).good.0)
 
 add-at-2 : tie.Need-overflow-add-at-2 invariant-loop decreases-loop
 add-at-2 c =
     let k = (put c).before.before in
-    omega (arith, noted-within (here k).loop.inv (met_at k) (put c).start.given.1, (start k).good.0)
+    omega (arith, noted_within (here k).loop.inv (met_at k) (put c).start.given.1, (start k).good.0)
 
 add-written : tie.Need-overflow-add-written invariant-loop decreases-loop
 add-written c =
     let k = (put c).before.before in
-    omega (arith, noted-room (here k).loop.inv (met_at k), (here k).loop.inv.written.size, (start k).good.1.1.1.1.0)
+    omega (arith, noted_room (here k).loop.inv (met_at k), (here k).loop.inv.written.size, (start k).good.1.1.1.1.0)
 
 loop-less : tie.Need-loop-smaller invariant-loop decreases-loop
 loop-less c = omega (arith, (put c).before.before.before.before.before.before.loop-test.true)

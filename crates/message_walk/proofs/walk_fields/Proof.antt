@@ -11,7 +11,7 @@ use Rattle.message_notes.specs.Notes.{count_in}
 use Rattle.message_walk.specs.Walk.{Fault, ending, entries_in, fields_on}
 use Rattle.message_walk.specs.Faults.{any, within}
 use Rattle.message_walk.proofs.Ends.{counted, refused_none}
-use Rattle.message_walk.proofs.Loops.{Walking, walking_first, Turn, turn_refused, turn_end, turn_done, turn-room, turn-here, turn-next}
+use Rattle.message_walk.proofs.Loops.{Walking, walking_first, Turn, turn_refused, turn_end, turn_done, turn_room, turn_here, turn_next}
 use Rattle.message_walk.proofs.Naming.{Naming, naming_first, naming_next, naming_done, numbers_are, entries_good}
 use borrow.Author.Rules.{rules}
 use Rattle.message_walk.proofs.walk_fields.Statement.{statement}
@@ -76,16 +76,16 @@ returns-2 c =
     (turn_end k is, naming_done (numbers_are _ _ _ (entries_good _ _ _)) (turn_done k is))
 
 add_at : tie.Need-overflow-add-at invariant-loop decreases-loop
-add_at c = let k = c.before.before in omega (arith, turn-room (turn_at k.before.before) k.number2.given.1, (start (here k.before.before)).good.1.0)
+add_at c = let k = c.before.before in omega (arith, turn_room (turn_at k.before.before) k.number2.given.1, (start (here k.before.before)).good.1.0)
 
 loop-less : tie.Need-loop-smaller invariant-loop decreases-loop
-loop-less c = let k = c.before.before in omega (arith, turn-room (turn_at k.before.before) k.number2.given.1)
+loop-less c = let k = c.before.before in omega (arith, turn_room (turn_at k.before.before) k.number2.given.1)
 
 loop-again : tie.Need-loop-preserved invariant-loop decreases-loop
 loop-again c =
     let k = turn_at c.before.before.before.before in
     let is = c.before.before.number2.given.1 in
-    turn-next k is (naming_next (turn-here k is) c.with.ensures)
+    turn_next k is (naming_next (turn_here k is) c.with.ensures)
 
 returns-3 : tie.Need-returns-3 invariant-loop decreases-loop
 returns-3 c = absurd (omega (arith, c.before.loop-test.false, c.before.before.loop.invariant.inside))

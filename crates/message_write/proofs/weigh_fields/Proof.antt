@@ -13,7 +13,7 @@ use Rattle.message_notes.specs.Notes.{count_in}
 use Rattle.message_walk.specs.Walk.{Fault, ending, entries_in, fields_on}
 use Rattle.message_walk.specs.Faults.{fault_by}
 use Rattle.message_walk.proofs.Ends.{counted, refused_none}
-use Rattle.message_walk.proofs.Loops.{Walking, walking_first, Turn, turn_refused, turn_end, turn_done, turn-room, turn-good, turn-here, turn-next}
+use Rattle.message_walk.proofs.Loops.{Walking, walking_first, Turn, turn_refused, turn_end, turn_done, turn_room, turn_good, turn_here, turn_next}
 use Rattle.message_walk.proofs.Naming.{numbers_are, entries_good}
 use Rattle.message_write.specs.Written.{entries_by, short_on, size_on}
 use Rattle.message_write.proofs.Weighing.{Weighing, weighing_first, weighing_fits, weighing_next, weighed_fields, weighed_short, weighed_size, weighed_small, short_none, size_none}
@@ -92,22 +92,22 @@ add-size : tie.Need-overflow-add-size invariant-loop decreases-loop
 add-size c =
     let j = judged-in c in
     let is = c.before.before.before.before.number2.given.1 in
-    omega (arith, weighing_fits (decoded_bounded _) (turn-here (turn_at j) is) (turn-good (turn_at j) is) _ c.written_size_lem.ensures)
+    omega (arith, weighing_fits (decoded_bounded _) (turn_here (turn_at j) is) (turn_good (turn_at j) is) _ c.written_size_lem.ensures)
 
 add_at : tie.Need-overflow-add-at invariant-loop decreases-loop
 add_at c =
     let j = judged-in c in
-    omega (arith, turn-room (turn_at j) c.before.before.before.before.number2.given.1, (start (here j)).good.1.0)
+    omega (arith, turn_room (turn_at j) c.before.before.before.before.number2.given.1, (start (here j)).good.1.0)
 
 loop-less : tie.Need-loop-smaller invariant-loop decreases-loop
-loop-less c = omega (arith, turn-room (turn_at (judged-in c)) c.before.before.before.before.number2.given.1)
+loop-less c = omega (arith, turn_room (turn_at (judged-in c)) c.before.before.before.before.number2.given.1)
 
 loop-again : tie.Need-loop-preserved invariant-loop decreases-loop
 loop-again c =
     let k = turn_at (judged-in c) in
     let is = c.before.before.before.before.number2.given.1 in
-    turn-next k is
-    (weighing_next (decoded_bounded _) (turn-here k is) (turn-good k is) _ c.written_size_lem.ensures c.before.before.with.ensures c.before.with-short.ensures)
+    turn_next k is
+    (weighing_next (decoded_bounded _) (turn_here k is) (turn_good k is) _ c.written_size_lem.ensures c.before.before.with.ensures c.before.with-short.ensures)
 
 returns-3 : tie.Need-returns-3 invariant-loop decreases-loop
 returns-3 c = absurd (omega (arith, c.before.loop-test.false, c.before.before.loop.invariant.inside))

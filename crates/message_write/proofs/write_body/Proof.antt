@@ -9,8 +9,8 @@ use Rattle.message_language.specs.Language.{entry}
 use Rattle.message_notes.specs.Dialect.{plain_form, note_size}
 use Rattle.message_notes.specs.Notes.{count_in}
 use Rattle.message_walk.specs.Walk.{listed_from, listed_in}
-use Rattle.message_walk.proofs.Loops.{Reading, reading_first, Read, read_malformed, read_end, read-room, read_here, read_next}
-use Rattle.message_write.proofs.Writing.{cleared, Writing, writing_first, writing-done, writing-taken, writing-fits, writing_more}
+use Rattle.message_walk.proofs.Loops.{Reading, reading_first, Read, read_malformed, read_end, read_room, read_here, read_next}
+use Rattle.message_write.proofs.Writing.{cleared, Writing, writing_first, writing_done, writing_taken, writing_fits, writing_more}
 use borrow.Author.Rules.{rules}
 use Rattle.message_write.proofs.write_body.Statement.{statement}
 use Rattle.message_write.proofs.write_body.Tie as tie
@@ -51,7 +51,7 @@ abbrev writing-at :
 writing-at c = read_here (turn_at (read-in c)) c.before.number.given.1
 
 fits : (c : tie.After-written-size invariant-loop decreases-loop) → (here (read-in c.before)).loop.written + c.written_size_lem.result ≤ length (here (read-in c.before)).loop.out
-fits c = writing-fits (decoded_bounded _) (writing-at c.before) c.written_size_lem.ensures (start (here (read-in c.before))).pre.1.1
+fits c = writing_fits (decoded_bounded _) (writing-at c.before) c.written_size_lem.ensures (start (here (read-in c.before))).pre.1.1
 
 loop-holds : tie.Need-loop-init invariant-loop decreases-loop
 loop-holds c = let s = c.before.before.before.before in reading_first s.requires.0 (writing_first (cleared _ _ _ _ s.requires.1.0))
@@ -60,19 +60,19 @@ same_length : tie.Need-same-length invariant-loop decreases-loop
 same_length c = (here c.before.before).loop.inv.holds.written.size
 
 returns : tie.Need-returns invariant-loop decreases-loop
-returns c = writing-done (read_malformed (turn_at c.before.before) c.enum_told.given.1)
+returns c = writing_done (read_malformed (turn_at c.before.before) c.enum_told.given.1)
 
 same-length-2 : tie.Need-same-length-2 invariant-loop decreases-loop
 same-length-2 c = (here c.before.before).loop.inv.holds.written.size
 
 returns-2 : tie.Need-returns-2 invariant-loop decreases-loop
-returns-2 c = writing-done (read_end (turn_at c.before.before) c.enum-told2.given.1)
+returns-2 c = writing_done (read_end (turn_at c.before.before) c.enum-told2.given.1)
 
 add-end : tie.Need-overflow-add-end invariant-loop decreases-loop
-add-end c = omega (arith, (writing-taken (decoded_bounded _) (writing-at c)).place, (start (here (read-in c))).good.0)
+add-end c = omega (arith, (writing_taken (decoded_bounded _) (writing-at c)).place, (start (here (read-in c))).good.0)
 
 part-put-field-end : tie.Need-slice-bounds-put-field-end invariant-loop decreases-loop
-part-put-field-end c = (writing-taken (decoded_bounded _) (writing-at c.before)).place
+part-put-field-end c = (writing_taken (decoded_bounded _) (writing-at c.before)).place
 
 sub-put-field-2 : tie.Need-overflow-sub-put-field-2 invariant-loop decreases-loop
 sub-put-field-2 c = omega (arith, fits c.before)
@@ -86,12 +86,12 @@ add-written c = omega (arith, fits c.before.before.before.before.before)
 add_at : tie.Need-overflow-add-at invariant-loop decreases-loop
 add_at c =
     let k = c.before.before.before.before.before.before in
-    omega (arith, read-room (turn_at (read-in k)) k.before.number.given.1, (start (here (read-in k))).good.1.0)
+    omega (arith, read_room (turn_at (read-in k)) k.before.number.given.1, (start (here (read-in k))).good.1.0)
 
 loop-less : tie.Need-loop-smaller invariant-loop decreases-loop
 loop-less c =
     let k = c.before.before.before.before.before.before in
-    omega (arith, read-room (turn_at (read-in k)) k.before.number.given.1)
+    omega (arith, read_room (turn_at (read-in k)) k.before.number.given.1)
 
 loop-again : tie.Need-loop-preserved invariant-loop decreases-loop
 loop-again c =

@@ -10,7 +10,7 @@ use Rattle.message_notes.specs.Dialect.{plain_form}
 use Rattle.message_notes.specs.Notes.{mti_in, count_in}
 use Rattle.message_walk.specs.Walk.{listed_in}
 use Rattle.message_write.specs.Written.{message_of}
-use Rattle.message_write.proofs.Ends.{Asked, asked_head, asked_size, ended_differs, differs_left, ended-short, short-left, ended-written, written-laid}
+use Rattle.message_write.proofs.Ends.{Asked, asked_head, asked_size, ended_differs, differs_left, ended_short, short_left, ended_written, written_laid}
 use borrow.Author.Rules.{rules}
 use Rattle.message_write.proofs.write_ended.Statement.{statement}
 use Rattle.message_write.proofs.write_ended.Tie as tie
@@ -51,7 +51,7 @@ returns c = (ended_differs _ _ _ _ _ (sized-at c.before) c.if1.true, differs_lef
 returns-2 : tie.Need-returns-2
 returns-2 c =
     let sized = sized-at c.before.before in
-    (ended-short _ _ _ _ _ sized c.before.if1.false c.if2.true, short-left _ _ _ _ _ sized c.before.if1.false c.if2.true)
+    (ended_short _ _ _ _ _ sized c.before.if1.false c.if2.true, short_left _ _ _ _ _ sized c.before.if1.false c.if2.true)
 
 write-message-requires : tie.Need-write-message-requires
 write-message-requires c κs =
@@ -63,7 +63,7 @@ returns-3 : tie.Need-returns-3
 returns-3 c =
     let fits = c.before.before.before.before in
     let sized = sized-at fits.before.before in
-    (ended-written _ _ _ _ _ sized fits.before.if1.false fits.if2.false, written-laid _ _ _ _ _ sized fits.before.if1.false _ fits.if2.false c.before.before.write-message.ensures)
+    (ended_written _ _ _ _ _ sized fits.before.if1.false fits.if2.false, written_laid _ _ _ _ _ sized fits.before.if1.false _ fits.if2.false c.before.before.write-message.ensures)
 
 pub write-ended-spec : {M : Type 1} → statement M
 write-ended-spec =

@@ -8,7 +8,7 @@ use Rattle.field_table.specs.Codes.{decoded}
 use Rattle.message_notes.specs.Dialect.{plain_form}
 use Rattle.message_walk.specs.Walk.{listed_in}
 use Rattle.message_write.specs.Written.{body_of}
-use Rattle.message_write.proofs.Ends.{Asked, asked_head, asked_long, made_long, message-written}
+use Rattle.message_write.proofs.Ends.{Asked, asked_head, asked_long, made_long, message_written}
 use borrow.Author.Rules.{rules}
 use Rattle.message_write.proofs.write_message.Statement.{statement}
 use Rattle.message_write.proofs.write_message.Tie as tie
@@ -78,7 +78,7 @@ returns c =
     let h = c.before.before.before.before in
     let k = begun (headed h) in
     let p = (headed h).before.before.before.before in
-    message-written _ _ _ _ (asked-at (start k)) (count k) k.before.before.count_in_lem.ensures _ p.before.before.mti_in_lem.ensures.0 _ (k.to-bytes.ensures ∙ k.before.of.ensures.1)
+    message_written _ _ _ _ (asked-at (start k)) (count k) k.before.before.count_in_lem.ensures _ p.before.before.mti_in_lem.ensures.0 _ (k.to-bytes.ensures ∙ k.before.of.ensures.1)
     _ _ _ _
     (start k).pre.1.1.1
     p.put.ensures

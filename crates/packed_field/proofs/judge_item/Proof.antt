@@ -1,5 +1,5 @@
 -- The place is found, then the content is asked about.
-use Rattle.packed_field.proofs.Ends.{judge_refused, judge-bad, judge-good}
+use Rattle.packed_field.proofs.Ends.{judge_refused, judge_bad, judge_good}
 use Rattle.packed_field.proofs.Found.{placed_within}
 use native.Mathlib.Omega.{arith}
 use Prim.Native.Nat.{◌+◌, ◌≤◌}
@@ -19,13 +19,13 @@ part-is-content-end : tie.Need-slice-bounds-is-content-end
 part-is-content-end c = omega (arith, within c.before)
 
 returns : tie.Need-returns
-returns c = search (judge-bad, rules)
+returns c = search (judge_bad, rules)
 
 returns-2 : tie.Need-returns-2
 returns-2 c = search (judge_refused, rules)
 
 returns-3 : tie.Need-returns-3
-returns-3 c = search (judge-good, rules)
+returns-3 c = search (judge_good, rules)
 
 pub judge-item-spec : {M : Type 1} → statement M
 judge-item-spec =

@@ -3,7 +3,7 @@ use mathlib.Core.Path.{sym}
 use lib.Seq.{length-take-le}
 use native.Mathlib.Omega.{arith}
 use Rattle.octets.proofs.Cases.{tested_true}
-use Rattle.packed_field.proofs.Ends.{place_cut, place-no-digit, place-long, place-past, place_found, across_small}
+use Rattle.packed_field.proofs.Ends.{place_cut, place_no_digit, place_long, place_past, place_found, across_small}
 use borrow.Author.Rules.{rules}
 use Rattle.packed_field.proofs.place_by.Statement.{statement}
 use Rattle.packed_field.proofs.place_by.Tie as tie
@@ -15,16 +15,16 @@ slice-aggregate-digits : tie.Need-slice-aggregate-digits
 slice-aggregate-digits c = sym (length-take-le _ c.before.before.before.before.args.rest.now c.before.if1.false)
 
 returns-2 : tie.Need-returns-2
-returns-2 c = search (place-no-digit, rules)
+returns-2 c = search (place_no_digit, rules)
 
 content-count-requires : tie.Need-content-count-requires
 content-count-requires c κs = (search rules, tested_true _ _ c.before.is-spelt.ensures c.if2.false)
 
 returns-3 : tie.Need-returns-3
-returns-3 c = search (place-long, rules)
+returns-3 c = search (place_long, rules)
 
 returns-4 : tie.Need-returns-4
-returns-4 c = search (place-past, rules)
+returns-4 c = search (place_past, rules)
 
 add-carried : tie.Need-overflow-add-carried
 add-carried c =

@@ -5,7 +5,7 @@ use native.Mathlib.Omega.{arith}
 use lib.Seq.{length-take-le}
 use Rattle.packed_field.specs.Scripts.{other}
 use Rattle.packed_field.specs.Items.{content_size}
-use Rattle.packed_link.proofs.Items.{item_within, first_left, content_asked, item-carried}
+use Rattle.packed_link.proofs.Items.{item_within, first_left, content_asked, item_carried_lem}
 use borrow.Author.Rules.{rules}
 use Rattle.packed_link.proofs.carry_item.Statement.{statement}
 use Rattle.packed_link.proofs.carry_item.Tie as tie
@@ -48,7 +48,7 @@ returns : tie.Need-returns
 returns c =
     let k = c.before.before.before.before.before in
     let p = (start k).requires in
-    item-carried _ _ _ _ _ _ _ _ p.1.0 _ _ _ _ _ _ _ p.1.1 k.before.before.before.before.before.before.before.before.width-in.ensures.0
+    item_carried_lem _ _ _ _ _ _ _ _ p.1.0 _ _ _ _ _ _ _ p.1.1 k.before.before.before.before.before.before.before.before.width-in.ensures.0
     k.before.before.other-script.ensures k.before.size_of_lem.ensures k.class-in.ensures k.before.before.before.before.before.carry.ensures c.before.before.carry-content.ensures
 
 pub carry-item-spec : {M : Type 1} → statement M

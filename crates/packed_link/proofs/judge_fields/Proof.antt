@@ -3,7 +3,7 @@ use Prim.Native.Nat.{◌-◌}
 use lib.ListN.{length}
 use native.Mathlib.Omega.{arith}
 use Rattle.packed_link.specs.Link.{fields_judged}
-use Rattle.packed_link.proofs.Turns.{Met, met, Scanned, scan_first, scan-refused, scan-within, scan-small, scan_good, scan_end}
+use Rattle.packed_link.proofs.Turns.{Met, met, Scanned, scan_first, scan_refused, scan_within, scan_small, scan_good, scan_end}
 use borrow.Author.Rules.{rules}
 use Rattle.packed_link.proofs.judge_fields.Statement.{statement}
 use Rattle.packed_link.proofs.judge_fields.Tie as tie
@@ -30,22 +30,22 @@ met_at c = met _ _ _ _ _ _ _ _ c.before.before.before.before.loop-test.true c.be
 returns : tie.Need-returns invariant-loop decreases-loop
 returns c =
     let k = c.before.before.before in
-    scan-refused (here k).loop.invariant (met_at k) c.before.number.given.1
+    scan_refused (here k).loop.invariant (met_at k) c.before.number.given.1
 
 add_at : tie.Need-overflow-add-at invariant-loop decreases-loop
 add_at c =
     let k = c.before.before.before in
-    omega (arith, scan-within (here k).loop.invariant (met_at k) c.before.start.given.1)
+    omega (arith, scan_within (here k).loop.invariant (met_at k) c.before.start.given.1)
 
 add-at-2 : tie.Need-overflow-add-at-2 invariant-loop decreases-loop
 add-at-2 c =
     let k = c.before.before.before in
-    omega (arith, scan-within (here k).loop.invariant (met_at k) c.before.start.given.1)
+    omega (arith, scan_within (here k).loop.invariant (met_at k) c.before.start.given.1)
 
 add-written : tie.Need-overflow-add-written invariant-loop decreases-loop
 add-written c =
     let k = c.before.before.before in
-    omega (arith, scan-small (here k).loop.invariant (met_at k) c.before.start.given.1, c.before.before.before.before.before.before.before.loop-test.true, (start k).requires.1.0, (start k).requires.1.1)
+    omega (arith, scan_small (here k).loop.invariant (met_at k) c.before.start.given.1, c.before.before.before.before.before.before.before.loop-test.true, (start k).requires.1.0, (start k).requires.1.1)
 
 loop-less : tie.Need-loop-smaller invariant-loop decreases-loop
 loop-less c = omega (arith, c.before.before.before.before.before.before.before.loop-test.true)

@@ -2,7 +2,7 @@
 use mathlib.Core.Path.{sym}
 use native.Mathlib.Omega.{arith}
 use lib.Seq.{length-take-le}
-use Rattle.packed_link.proofs.Heads.{mti_small, head_short, head-no-digit, head-maps}
+use Rattle.packed_link.proofs.Heads.{mti_small, head_short, head_no_digit, head_maps}
 use borrow.Author.Rules.{rules}
 use Rattle.packed_link.proofs.read_head.Statement.{statement}
 use Rattle.packed_link.proofs.read_head.Tie as tie
@@ -17,10 +17,10 @@ slice-aggregate-lead-parts : tie.Need-slice-aggregate-lead-parts
 slice-aggregate-lead-parts c = sym (length-take-le _ c.before.before.before.before.args.input.now (omega (arith, c.before.if1.false)))
 
 returns-2 : tie.Need-returns-2
-returns-2 c = search (head-no-digit, rules)
+returns-2 c = search (head_no_digit, rules)
 
 returns-3 : tie.Need-returns-3
-returns-3 c = search (head-maps, rules)
+returns-3 c = search (head_maps, rules)
 
 pub read-head-spec : {M : Type 1} → statement M
 read-head-spec =

@@ -6,7 +6,7 @@ use native.Mathlib.Omega.{arith}
 use lib.Seq.{length-take-le}
 use Rattle.bitmap.specs.Bitmaps.{fields_of}
 use Rattle.bitmap_read.specs.Found.{maps_of}
-use Rattle.packed_link.proofs.Heads.{mti_small, head_few, head-room, list_is, list_few}
+use Rattle.packed_link.proofs.Heads.{mti_small, head_few, head_room, list_is, list_few}
 use borrow.Author.Rules.{rules}
 use Rattle.packed_link.proofs.translate_fields.Statement.{statement}
 use Rattle.packed_link.proofs.translate_fields.Tie as tie
@@ -21,7 +21,7 @@ add-end : tie.Need-overflow-add-end
 add-end c = omega (arith, head_few _ _ _ _ (omega arith) (start c).requires, mti_small (start c).args.script, c.size_of_lem.ensures)
 
 part-list-fields-end : tie.Need-slice-bounds-list-fields-end
-part-list-fields-end c = omega (arith, head-room _ _ _ _ (omega arith) (start c).requires, c.size_of_lem.ensures)
+part-list-fields-end c = omega (arith, head_room _ _ _ _ (omega arith) (start c).requires, c.size_of_lem.ensures)
 
 listed_few : (c : tie.After-list-fields) → c.list-fields.result.count ≤ length c.list-fields.result.numbers
 listed_few c =

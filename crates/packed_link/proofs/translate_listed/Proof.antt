@@ -9,7 +9,7 @@ use Rattle.bitmap_read.specs.Found.{maps_of}
 use Rattle.packed_field.specs.declared.Script.{Script}
 use Rattle.packed_field.specs.Scripts.{size_of}
 use Rattle.packed_link.specs.Link.{body_judged}
-use Rattle.packed_link.proofs.Heads.{mti_small, head_few, head-room}
+use Rattle.packed_link.proofs.Heads.{mti_small, head_few, head_room}
 use Rattle.packed_link.proofs.Answers.{ends-refused, ends-short, ends-done, body_is}
 use borrow.Author.Rules.{rules}
 use Rattle.packed_link.proofs.translate_listed.Statement.{statement}
@@ -31,7 +31,7 @@ judge-fields-requires : tie.Need-judge-fields-requires
 judge-fields-requires c κs =
     let p = (start c).requires in
     let f = head_few _ _ _ _ (omega arith) p.0 in
-    let r = head-room _ _ _ _ (omega arith) p.0 in (
+    let r = head_room _ _ _ _ (omega arith) p.0 in (
       omega (arith, r, c.before.before.size_of_lem.ensures),
       (
         omega (arith, f, mti_small c.before.other-script.result, c.size-of2.ensures),

@@ -3,7 +3,7 @@ use Prim.Native.Nat.{◌-◌}
 use lib.ListN.{length}
 use native.Mathlib.Omega.{arith}
 use Rattle.packed_link.proofs.Turns.{Met}
-use Rattle.packed_link.proofs.Carrying.{Carrying, carrying_first, carrying_met, carrying-refused, carrying-judged, carrying-within, carrying-room, carrying-part, carrying-good, carrying_end}
+use Rattle.packed_link.proofs.Carrying.{Carrying, carrying_first, carrying_met, carrying_refused, carrying_judged, carrying_within, carrying_room, carrying_part, carrying_good, carrying_end}
 use borrow.Author.Rules.{rules}
 use Rattle.packed_link.proofs.write_fields.Statement.{statement}
 use Rattle.packed_link.proofs.write_fields.Tie as tie
@@ -33,23 +33,23 @@ same_length c = (here c.before.before).loop.inv.written.size
 returns : tie.Need-returns invariant-loop decreases-loop
 returns c =
     let k = c.before.before in
-    carrying-refused (here k).loop.invariant (met_at k) c.enum_told.given.1
+    carrying_refused (here k).loop.invariant (met_at k) c.enum_told.given.1
 
 sub-carry-item-2 : tie.Need-overflow-sub-carry-item-2 invariant-loop decreases-loop
 sub-carry-item-2 c =
     let k = c.before.before.before.before in
-    omega (arith, carrying-room (here k).loop.invariant (met_at k) c.before.before.start.given.1)
+    omega (arith, carrying_room (here k).loop.invariant (met_at k) c.before.before.start.given.1)
 
 part-carry-item-start-2 : tie.Need-slice-bounds-carry-item-start-2 invariant-loop decreases-loop
 part-carry-item-start-2 c =
     let k = c.before.before.before.before in
-    omega (arith, carrying-room (here k).loop.invariant (met_at k) c.before.before.start.given.1)
+    omega (arith, carrying_room (here k).loop.invariant (met_at k) c.before.before.start.given.1)
 
 carry-item-requires : tie.Need-carry-item-requires invariant-loop decreases-loop
 carry-item-requires c κs =
     let g = c.before.before.before in
     let k = g.before.before in
-    (_, (carrying-judged (here k).loop.invariant (met_at k) g.start.given.1, carrying-part (here k).loop.invariant (met_at k) g.start.given.1))
+    (_, (carrying_judged (here k).loop.invariant (met_at k) g.start.given.1, carrying_part (here k).loop.invariant (met_at k) g.start.given.1))
 
 -- the field is written
 abbrev put : tie.After-slice-known2 invariant-loop decreases-loop → tie.After-start invariant-loop decreases-loop
@@ -58,17 +58,17 @@ put c = c.before.before.before.before.before.before
 add_at : tie.Need-overflow-add-at invariant-loop decreases-loop
 add_at c =
     let k = (put c).before.before in
-    omega (arith, carrying-within (here k).loop.inv (met_at k) (put c).start.given.1, (start k).good.0)
+    omega (arith, carrying_within (here k).loop.inv (met_at k) (put c).start.given.1, (start k).good.0)
 
 add-at-2 : tie.Need-overflow-add-at-2 invariant-loop decreases-loop
 add-at-2 c =
     let k = (put c).before.before in
-    omega (arith, carrying-within (here k).loop.inv (met_at k) (put c).start.given.1, (start k).good.0)
+    omega (arith, carrying_within (here k).loop.inv (met_at k) (put c).start.given.1, (start k).good.0)
 
 add-written : tie.Need-overflow-add-written invariant-loop decreases-loop
 add-written c =
     let k = (put c).before.before in
-    omega (arith, carrying-room (here k).loop.inv (met_at k) (put c).start.given.1, (here k).loop.inv.written.size, (start k).good.1.1.1.1.1.0)
+    omega (arith, carrying_room (here k).loop.inv (met_at k) (put c).start.given.1, (here k).loop.inv.written.size, (start k).good.1.1.1.1.1.0)
 
 loop-less : tie.Need-loop-smaller invariant-loop decreases-loop
 loop-less c = omega (arith, (put c).before.before.before.before.before.before.loop-test.true)
@@ -76,7 +76,7 @@ loop-less c = omega (arith, (put c).before.before.before.before.before.before.lo
 loop-again : tie.Need-loop-preserved invariant-loop decreases-loop
 loop-again c =
     let k = (put c).before.before in
-    carrying-good (here k).loop.inv (met_at k) (put c).start.given.1 c.before.before.carry-item.ensures
+    carrying_good (here k).loop.inv (met_at k) (put c).start.given.1 c.before.before.carry-item.ensures
 
 same-length-2 : tie.Need-same-length-2 invariant-loop decreases-loop
 same-length-2 c = c.before.loop.invariant.written.size

@@ -6,7 +6,7 @@ use lib.ListN.{length, drop}
 use lib.Seq.{length-take-le}
 use Rattle.field_table.specs.Codes.{decoded}
 use Rattle.packed_link.specs.Link.{fields_carried}
-use Rattle.packed_link.proofs.Writing.{few, inside, fields-good, fields-room, message-written}
+use Rattle.packed_link.proofs.Writing.{few, inside, fields_good, fields_room, message_written}
 use borrow.Author.Rules.{rules}
 use Rattle.packed_link.proofs.write_message.Statement.{statement}
 use Rattle.packed_link.proofs.write_message.Tie as tie
@@ -25,7 +25,7 @@ fits : (c : tie.After-size-of2) → c.size-of2.result + 8 * (start (begun c)).ar
 fits c =
     let b = begun c in
     let p = (start b).pre in
-    fields-room _ (decoded (start b).args.table.now) _ _ (start b).args.out.now _ p.0 p.1.0 _ b.size_of_lem.ensures _ c.before.other-script.ensures _ c.size-of2.ensures _ _ p.1.1.2.0 p.1.1.2.1
+    fields_room _ (decoded (start b).args.table.now) _ _ (start b).args.out.now _ p.0 p.1.0 _ b.size_of_lem.ensures _ c.before.other-script.ensures _ c.size-of2.ensures _ _ p.1.1.2.0 p.1.1.2.1
 
 mul-maps : tie.Need-overflow-mul-maps
 mul-maps c = omega (arith, few _ (decoded (start c).args.table.now) _ _ (start c).args.out.now _ (start c).requires.0 (start c).requires.1.0 _ c.size_of_lem.ensures)
@@ -59,7 +59,7 @@ write-fields-requires c κs =
     let k = c.before.before.before.before.before.before in
     let b = begun k in
     let p = (start b).pre in
-    let g = fields-good _ _ _ _ (start b).args.out.now _ p.0 p.1.0 _ b.size_of_lem.ensures _ k.before.other-script.ensures _ k.size-of2.ensures _ _ p.1.1.2.0 p.1.1.2.1 in
+    let g = fields_good _ _ _ _ (start b).args.out.now _ p.0 p.1.0 _ b.size_of_lem.ensures _ k.before.other-script.ensures _ k.size-of2.ensures _ _ p.1.1.2.0 p.1.1.2.1 in
     (within b, ((_, _, _, g), omega (arith, fits k, c.write-fields-arg.given, c.before.before.out2.given, k.before.before.before.out.given)))
 
 returns : tie.Need-returns
@@ -68,7 +68,7 @@ returns c =
     let k = f.before.before.before.before.before.before.before in
     let b = begun k in
     let p = (start b).pre in
-    message-written _ (decoded (start b).args.table.now) _ _ (start b).args.out.now _ p.0 p.1.0 _ b.size_of_lem.ensures _ k.before.other-script.ensures _ k.size-of2.ensures _ _ p.1.1.2.0 p.1.1.2.1 _ _ _
+    message_written _ (decoded (start b).args.table.now) _ _ (start b).args.out.now _ p.0 p.1.0 _ b.size_of_lem.ensures _ k.before.other-script.ensures _ k.size-of2.ensures _ _ p.1.1.2.0 p.1.1.2.1 _ _ _
     k.before.before.before.before.carry.ensures f.before.before.before.before.put.ensures _ refl f.write-fields.ensures
 
 pub write-message-spec : {M : Type 1} → statement M

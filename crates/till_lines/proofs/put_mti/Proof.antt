@@ -1,6 +1,6 @@
 -- The word is laid, then the MTI and the end behind it.
 use Prim.Native.Nat.{◌-◌}
-use Rattle.till_lines.proofs.Writing.{MtiBegun, as_long, mti_line_long, mti_room, mti_begun_size, mti-put-size, mti-ended}
+use Rattle.till_lines.proofs.Writing.{MtiBegun, as_long, mti_line_long, mti_room, mti_begun_size, mti_put_size, mti_ended}
 use borrow.Author.Rules.{rules}
 use native.Mathlib.Omega.{arith}
 use Rattle.till_lines.proofs.put_mti.Statement.{statement}
@@ -22,13 +22,13 @@ part-put-start : tie.Need-slice-bounds-put-start
 part-put-start c = omega (arith, mti_begun_size (begun-at c), mti_room (begun-at c))
 
 slice-write-out : tie.Need-slice-write-out
-slice-write-out c = omega (arith, mti-put-size (begun-at (back c)) c.before.before.put2.ensures, mti_room (begun-at (back c)))
+slice-write-out c = omega (arith, mti_put_size (begun-at (back c)) c.before.before.put2.ensures, mti_room (begun-at (back c)))
 
 same_length : tie.Need-same-length
-same_length c = as_long _ _ _ (mti-ended (begun-at (back c)) c.before.before.put2.ensures) (start (back c)).requires
+same_length c = as_long _ _ _ (mti_ended (begun-at (back c)) c.before.before.put2.ensures) (start (back c)).requires
 
 returns : tie.Need-returns
-returns c = (omega (arith, mti_line_long (start (back c)).args.mti.now), mti-ended (begun-at (back c)) c.before.before.put2.ensures)
+returns c = (omega (arith, mti_line_long (start (back c)).args.mti.now), mti_ended (begun-at (back c)) c.before.before.put2.ensures)
 
 pub put-mti-spec : {M : Type 1} → statement M
 put-mti-spec =

@@ -10,8 +10,8 @@ use Rattle.message_notes.specs.Dialect.{plain_form}
 use Rattle.message_notes.specs.Notes.{note_at}
 use Rattle.message_reader.specs.Reader.{reading_with}
 use Rattle.till_lines.specs.Lines.{reading_lines}
-use Rattle.till_lines.proofs.Reading.{Opened, Begun, Headed, input_four, lines_room, mti_fits, begun_room, begun_size, maps_fits, headed_room, headed_size, headed_over, walked-first}
-use Rattle.till_lines.proofs.Walking.{Walked, note_part, walked_inside, field_room, field-within, field-inside, walked-field, end-room, walked_end, never_malformed}
+use Rattle.till_lines.proofs.Reading.{Opened, Begun, Headed, input_four, lines_room, mti_fits, begun_room, begun_size, maps_fits, headed_room, headed_size, headed_over, walked_first}
+use Rattle.till_lines.proofs.Walking.{Walked, note_part, walked_inside, field_room, field_within, field_inside, walked_field, end_room, walked_end, never_malformed}
 use Rattle.till_lines.proofs.Writing.{as_long}
 use native.Mathlib.Omega.{arith}
 use borrow.Author.Rules.{rules}
@@ -103,7 +103,7 @@ add-written : tie.Need-overflow-add-written invariant-loop decreases-loop
 add-written c = omega (arith, headed_room (headed-at c))
 
 loop-holds : tie.Need-loop-init invariant-loop decreases-loop
-loop-holds c = let s = entered (first c) in walked-first (headed-at c) s.args.notes.now s.pre.1.1.0
+loop-holds c = let s = entered (first c) in walked_first (headed-at c) s.args.notes.now s.pre.1.1.0
 
 sub-put-field : tie.Need-overflow-sub-put-field invariant-loop decreases-loop
 sub-put-field c = omega (arith, (field-turn c).loop.invariant.written.within)
@@ -118,13 +118,13 @@ add-written-2 : tie.Need-overflow-add-written-2 invariant-loop decreases-loop
 add-written-2 c =
     let k = c.before.before.before.before in
     let l = field-turn k in
-    omega (arith, c.before.before.put-field.ensures.0, field-within l.loop.inv (field_at k), lines_room (opened-at (start l)))
+    omega (arith, c.before.before.put-field.ensures.0, field_within l.loop.inv (field_at k), lines_room (opened-at (start l)))
 
 add_at : tie.Need-overflow-add-at invariant-loop decreases-loop
 add_at c =
     let k = c.before.before.before.before in
     let l = field-turn k in
-    omega (arith, field-inside l.loop.inv (field_at k), (start l).good.1.1.1.0)
+    omega (arith, field_inside l.loop.inv (field_at k), (start l).good.1.1.1.0)
 
 loop-less : tie.Need-loop-smaller invariant-loop decreases-loop
 loop-less c = omega (arith, c.before.before.before.before.before.before.before.before.before.loop-test.true)
@@ -133,7 +133,7 @@ loop-again : tie.Need-loop-preserved invariant-loop decreases-loop
 loop-again c =
     let k = c.before.before.before.before in
     let l = field-turn k in
-    walked-field l.loop.inv (field_at k) c.before.before.put-field.ensures.0 c.before.before.put-field.ensures.1
+    walked_field l.loop.inv (field_at k) c.before.before.put-field.ensures.0 c.before.before.put-field.ensures.1
 
 sub-put-named-2 : tie.Need-overflow-sub-put-named-2 invariant-loop decreases-loop
 sub-put-named-2 c = omega (arith, (end-turn c).loop.invariant.written.within)
@@ -142,7 +142,7 @@ part-put-named-start-2 : tie.Need-slice-bounds-put-named-start-2 invariant-loop 
 part-put-named-start-2 c = omega (arith, (end-turn c).loop.invariant.written.within)
 
 put-named-requires-2 : tie.Need-put-named-requires-2 invariant-loop decreases-loop
-put-named-requires-2 c κs = end-room (end-turn c.before).loop.inv (end-at c.before)
+put-named-requires-2 c κs = end_room (end-turn c.before).loop.inv (end-at c.before)
 
 add-result : tie.Need-overflow-add-result invariant-loop decreases-loop
 add-result c =

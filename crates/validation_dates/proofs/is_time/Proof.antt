@@ -1,6 +1,6 @@
 -- One law for each end, in Dates.
 use Rattle.octets.proofs.Numbers.{are_digits_room}
-use Rattle.validation_dates.proofs.Dates.{time_no_digits, time-no-hour, time-no-minute, time-second}
+use Rattle.validation_dates.proofs.Dates.{time_no_digits, time_no_hour, time_no_minute, time_second}
 use borrow.Author.Rules.{rules}
 use Rattle.validation_dates.proofs.is_time.Statement.{statement}
 use Rattle.validation_dates.proofs.is_time.Tie as tie
@@ -12,19 +12,19 @@ is-pair-between-requires : tie.Need-is-pair-between-requires
 is-pair-between-requires c κs = search (are_digits_room, rules)
 
 returns-2 : tie.Need-returns-2
-returns-2 c = search (time-no-hour, rules)
+returns-2 c = search (time_no_hour, rules)
 
 is-pair-between-requires-2 : tie.Need-is-pair-between-requires-2
 is-pair-between-requires-2 c κs = search (are_digits_room, rules)
 
 returns-3 : tie.Need-returns-3
-returns-3 c = search (time-no-minute, rules)
+returns-3 c = search (time_no_minute, rules)
 
 is-pair-between-requires-3 : tie.Need-is-pair-between-requires-3
 is-pair-between-requires-3 c κs = search (are_digits_room, rules)
 
 returns-4 : tie.Need-returns-4
-returns-4 c = search (time-second, rules)
+returns-4 c = search (time_second, rules)
 
 pub is-time-spec : {M : Type 1} → statement M
 is-time-spec =

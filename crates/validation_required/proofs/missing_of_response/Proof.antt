@@ -1,5 +1,5 @@
 -- One law for each end, in Required.
-use Rattle.validation_required.proofs.Required.{no_response, no-39, all_there}
+use Rattle.validation_required.proofs.Required.{no_response, no_39, all_there}
 use borrow.Author.Rules.{rules}
 use Rattle.validation_required.proofs.missing_of_response.Statement.{statement}
 use Rattle.validation_required.proofs.missing_of_response.Tie as tie
@@ -8,7 +8,7 @@ returns : tie.Need-returns
 returns c = search (no_response, rules)
 
 returns-2 : tie.Need-returns-2
-returns-2 c = search (no-39, rules)
+returns-2 c = search (no_39, rules)
 
 returns-3 : tie.Need-returns-3
 returns-3 c = search (all_there, rules)
