@@ -17,6 +17,8 @@
 //
 // Any other line is no question, and so is one with a number that no 64 bits hold, with more bytes or room than 2,048, or longer than
 // 8,191 bytes. Reading goes on behind it.
+#![tactic(auto)]
+
 ghost use Rattle.std.specs.Prelude.{◌≡◌, ◌<◌, ◌≤◌, length};
 
 use bitmap::FieldSet;

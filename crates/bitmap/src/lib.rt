@@ -1,17 +1,19 @@
 // Bitmaps: which fields a message has. 01, "The message".
+#![tactic(auto)]
+
 ghost use Rattle.std.specs.Prelude.{◌≡◌, ◌-◌, ◌<◌, ◌≤◌, min, true, length, replicate};
 ghost use Rattle.octets.specs.Lists.{all, between, lay, placed};
 ghost use Rattle.bitmap.specs.Bits.{bit_of, with_bit};
 ghost use Rattle.bitmap.specs.Bitmaps.{is_field, has_field, fields_of, unchained, bit_numbers, no_fields, with_field, chain, map_byte, maps_from, maps_for};
 
 // A set of fields, as 24 bytes of bits placed as in the bitmaps.
-#[derive(Drop)]
+#[derive(Clone, Copy)]
 pub struct FieldSet {
     bits: [u8; 24],
 }
 
 // Fields as a list: how many there are, and their numbers at the front of 192; the others are zero.
-#[derive(Drop)]
+#[derive(Clone, Copy)]
 pub struct FieldList {
     pub count: usize,
     pub numbers: [u8; 192],
@@ -19,7 +21,7 @@ pub struct FieldList {
 
 // Up to three bitmaps: their count, and their bytes at the front of 24; the others are zero.
 // They are made from a count and a set of fields: no bit can be set or cleared by itself.
-#[derive(Drop)]
+#[derive(Clone, Copy)]
 pub struct Bitmaps {
     count: usize,
     bytes: [u8; 24],

@@ -1,4 +1,6 @@
 // Finding the bitmaps of an input, wherever they start. 01, "The message".
+#![tactic(auto)]
+
 ghost use Rattle.std.specs.Prelude.{◌≡◌};
 ghost use Rattle.refusal.specs.Numbers.{bitmap_incomplete};
 ghost use Rattle.refusal.specs.Refusals.{refusal};
@@ -7,7 +9,7 @@ ghost use Rattle.bitmap_read.specs.Found.{bitmaps_read};
 use refusal::Refusal;
 
 // How many bitmaps there are, or the refusal.
-#[derive(Drop)]
+#[derive(Clone, Copy)]
 pub enum BitmapsRead {
     Count(usize),
     Refused(Refusal),

@@ -1,5 +1,7 @@
 // The desk: what programs in C, Rust or another language link. The reader, the writers, lookup, the packed link, checks and conversions
 // under plain names, their answers told in the terms of desk_terms.
+#![tactic(auto)]
+
 ghost use Rattle.std.specs.Prelude.{◌≡◌, map};
 ghost use Rattle.refusal.specs.Refusals.{converted, converted_into, told, checked, told_checked};
 ghost use Rattle.encoding_bcd.specs.Bcd.{packed, unpacked, encode_fault as bcd_encode_fault, decode_fault as bcd_decode_fault};

@@ -1,5 +1,7 @@
 // The terms in which other languages speak with the library: answers of numbers alone, and encodings by their numbers. An answer has
 // number, field and position first, all 0 where nothing is refused, then its values, all 0 where something is.
+#![tactic(auto)]
+
 ghost use Rattle.std.specs.Prelude.{◌≡◌};
 ghost use Rattle.refusal.specs.Refusals.{told, told_checked};
 ghost use Rattle.encoding_length.specs.Lengths.{told_length};
@@ -16,7 +18,7 @@ use refusal::{Checked, Output, Refusal};
 
 // What reading tells: the bytes used and the count of bitmaps.
 #[repr(C)]
-#[derive(Drop)]
+#[derive(Clone, Copy)]
 pub struct Reading {
     pub number: u64,
     pub field: u64,
@@ -27,7 +29,7 @@ pub struct Reading {
 
 // What writing and converting tell: the length written.
 #[repr(C)]
-#[derive(Drop)]
+#[derive(Clone, Copy)]
 pub struct Written {
     pub number: u64,
     pub field: u64,
@@ -38,7 +40,7 @@ pub struct Written {
 // What cleaning tells: the length written, and the set of the fields padded in three words. Bit f is counted from the high bit
 // of the first word, from 1.
 #[repr(C)]
-#[derive(Drop)]
+#[derive(Clone, Copy)]
 pub struct Cleaned {
     pub number: u64,
     pub field: u64,
@@ -51,7 +53,7 @@ pub struct Cleaned {
 
 // What lookup tells: the place of the content in the values, and its length.
 #[repr(C)]
-#[derive(Drop)]
+#[derive(Clone, Copy)]
 pub struct Found {
     pub number: u64,
     pub field: u64,
@@ -62,7 +64,7 @@ pub struct Found {
 
 // What carrying a message over the packed link tells: the bytes used of the input, and the bytes written.
 #[repr(C)]
-#[derive(Drop)]
+#[derive(Clone, Copy)]
 pub struct Translation {
     pub number: u64,
     pub field: u64,
@@ -73,7 +75,7 @@ pub struct Translation {
 
 // What decoding a length tells: the length.
 #[repr(C)]
-#[derive(Drop)]
+#[derive(Clone, Copy)]
 pub struct Measurement {
     pub number: u64,
     pub field: u64,
@@ -83,7 +85,7 @@ pub struct Measurement {
 
 // What a check tells.
 #[repr(C)]
-#[derive(Drop)]
+#[derive(Clone, Copy)]
 pub struct Judgement {
     pub number: u64,
     pub field: u64,

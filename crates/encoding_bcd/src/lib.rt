@@ -1,4 +1,6 @@
 // BCD: two digits to a byte. An odd digit count gets a leading 0, so n digits take half of n bytes, rounded up.
+#![tactic(auto)]
+
 ghost use Rattle.std.specs.Prelude.{◌≡◌, true, ◌+◌, ◌-◌, ◌<◌, ◌≤◌, length, get_or};
 ghost use Rattle.octets.specs.Lists.{all, lay};
 ghost use Rattle.octets.specs.Numbers.{is_digit};

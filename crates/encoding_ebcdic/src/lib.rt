@@ -1,4 +1,6 @@
 // EBCDIC: each byte stands for another by a table of 256 entries, in which every byte value stands once.
+#![tactic(auto)]
+
 mod inverse;
 
 ghost use Rattle.std.specs.Prelude.{◌≡◌, map, ◌≤◌, length};

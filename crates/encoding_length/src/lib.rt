@@ -1,4 +1,6 @@
 // Length indicators: a length in two or three digits, in ASCII, BCD or EBCDIC.
+#![tactic(auto)]
+
 ghost use Rattle.std.specs.Prelude.{◌≡◌, true, cond, ◌^◌, ◌≤◌, length};
 ghost use Rattle.octets.specs.Lists.{all};
 ghost use Rattle.octets.specs.Numbers.{is_digit, decimal, decimal_of};
@@ -13,7 +15,7 @@ use refusal::{
     Output, Refusal,
 };
 
-#[derive(Drop)]
+#[derive(Clone, Copy)]
 pub enum Encoding {
     Ascii,
     Bcd,
@@ -21,7 +23,7 @@ pub enum Encoding {
 }
 
 // What decoding answers: the length, or why there is none.
-#[derive(Drop)]
+#[derive(Clone, Copy)]
 pub enum Measured {
     Length(usize),
     Refused(Refusal),

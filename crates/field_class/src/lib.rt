@@ -1,4 +1,6 @@
 // Classes of contents: n, a, an, ans, ns, z, x+n and b. 01, "Classes".
+#![tactic(auto)]
+
 ghost use Rattle.std.specs.Prelude.{◌≡◌};
 ghost use Rattle.octets.specs.Lists.{all};
 ghost use Rattle.field_class.specs.Classes.{is_letter, is_sign, allows, signed, conforms};

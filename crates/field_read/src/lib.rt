@@ -1,4 +1,6 @@
 // Reading one field from the rest of a message. 01, "The message" and "Reader order".
+#![tactic(auto)]
+
 ghost use Rattle.std.specs.Prelude.{◌≡◌, ◌≤◌, length};
 ghost use Rattle.octets.specs.Lists.{either, all};
 ghost use Rattle.octets.specs.Numbers.{is_ascii};
@@ -9,7 +11,7 @@ ghost use Rattle.field_read.specs.Items.{length_of, read_item, read_field, place
 use field_table::Class;
 
 // The content starts at start in the rest and is length bytes long; or the number of the refusal.
-#[derive(Drop)]
+#[derive(Clone, Copy)]
 pub enum FieldRead {
     Content { start: usize, length: usize },
     Refused(u8),

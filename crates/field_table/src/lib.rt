@@ -1,11 +1,13 @@
 // The field table by number: how many length digits, the length, the class. 01, "Field table".
+#![tactic(auto)]
+
 ghost use Rattle.std.specs.Prelude.{◌≡◌, ◌≤◌};
 ghost use Rattle.field_table.specs.Table.{is_binary};
 ghost use Rattle.field_table.specs.House.{house};
 ghost use Rattle.field_table.specs.Codes.{class_by_code, code_in, decoded, house_codes};
 
 // n, a, an, ans, ns, z, x+n and b.
-#[derive(Drop)]
+#[derive(Clone, Copy)]
 pub enum Class {
     N,
     A,

@@ -1,4 +1,6 @@
 // Writing one field: whether its content may be written, what it takes, and its bytes. 01, "Exact and cleaning writers".
+#![tactic(auto)]
+
 ghost use Rattle.std.specs.Prelude.{◌≡◌, cond, ◌++◌, leb, length, replicate};
 ghost use Rattle.octets.specs.Lists.{placed};
 ghost use Rattle.octets.specs.Numbers.{decimal};

@@ -1,4 +1,6 @@
 // Lookup: where a field's content lies in the values, and the content itself. 01, "Notes" and "Lookup walks".
+#![tactic(auto)]
+
 ghost use Rattle.std.specs.Prelude.{◌≡◌, [], ◌+◌, ◌≤◌, length, take, drop};
 ghost use Rattle.field_table.specs.House.{house};
 ghost use Rattle.message_notes.specs.Dialect.{plain_form, head_size, dialect};
@@ -10,7 +12,7 @@ use message_walk::Walked;
 use refusal::Refusal;
 
 // The content's place in the values and its length, or the refusal.
-#[derive(Drop)]
+#[derive(Clone, Copy)]
 pub enum Found {
     At { offset: usize, length: usize },
     Refused(Refusal),

@@ -1,4 +1,6 @@
 // The bytes of notes. 01, "Notes". How the bytes of a note are laid out is said here and nowhere above.
+#![tactic(auto)]
+
 ghost use Rattle.std.specs.Prelude.{◌≡◌, cond, [], ◌+◌, leb, length};
 ghost use Rattle.octets.specs.Lists.{placed};
 ghost use Rattle.message_language.specs.Language.{entry};
@@ -6,7 +8,7 @@ ghost use Rattle.message_notes.specs.Dialect.{plain_form, head_size};
 ghost use Rattle.message_notes.specs.Notes.{head_note, field_note, end_note, is_head, mti_in, mti_place, count_in, field_note_at, end_note_at, note_at};
 
 // What stands where the note of a field or of the end should: its numbers, or that it is missing, cut or of another kind.
-#[derive(Drop)]
+#[derive(Clone, Copy)]
 pub enum Note {
     Field {
         number: usize,

@@ -1,4 +1,6 @@
 // The reader: reads a message without changing it, and notes where each field's content is. 01, "The message" and "Notes".
+#![tactic(auto)]
+
 ghost use Rattle.std.specs.Prelude.{◌≡◌, ℕ, ◌≤◌, ◌+◌, ◌*◌, length, drop};
 ghost use Rattle.octets.specs.Lists.{lay};
 ghost use Rattle.field_table.specs.House.{house};
@@ -14,14 +16,14 @@ use field_read::FieldRead;
 use refusal::Refusal;
 
 // The bytes used and the count of bitmaps, or the refusal.
-#[derive(Drop)]
+#[derive(Clone, Copy)]
 pub enum ReadAnswer {
     Accepted { used: usize, bitmaps: usize },
     Refused(Refusal),
 }
 
 // The place after the last field, or the refusal.
-#[derive(Drop)]
+#[derive(Clone, Copy)]
 enum FieldsRead {
     Used(usize),
     Refused(Refusal),

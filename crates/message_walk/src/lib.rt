@@ -1,4 +1,6 @@
 // The walk over notes: judges them, wherever they come from. 01, "Writers walk the notes" and "Lookup walks".
+#![tactic(auto)]
+
 ghost use Rattle.std.specs.Prelude.{◌≡◌, true, cond, ◌+◌, ◌≤◌, length, drop, leb};
 ghost use Rattle.refusal.specs.Numbers.{outside_values};
 ghost use Rattle.refusal.specs.Refusals.{refusal};
@@ -17,14 +19,14 @@ use message_notes::Note;
 use refusal::Refusal;
 
 // What is asked of a content besides its place: what the exact writer asks, or the cleaning writer. Lookup asks nothing.
-#[derive(Drop)]
+#[derive(Clone, Copy)]
 pub enum Rule {
     Exact,
     Clean,
 }
 
 // What a note is found to be: a field's, with the place of its content in the values; the end; or the number of a refusal and its field.
-#[derive(Drop)]
+#[derive(Clone, Copy)]
 pub enum Judged {
     Passed {
         number: usize,
@@ -39,14 +41,14 @@ pub enum Judged {
 }
 
 // How a walk ends: where the end note stands and the length that it says; or the refusal.
-#[derive(Drop)]
+#[derive(Clone, Copy)]
 pub enum Walked {
     Ended { at: usize, said: usize },
     Refused(Refusal),
 }
 
 // What a walk gathers: how it ended, and the set of the fields that the notes name, empty where it was refused.
-#[derive(Drop)]
+#[derive(Clone, Copy)]
 pub struct Gathered {
     pub end: Walked,
     pub fields: FieldSet,

@@ -1,4 +1,6 @@
 // The exact and the cleaning writer. 01, "Exact and cleaning writers".
+#![tactic(auto)]
+
 ghost use Rattle.std.specs.Prelude.{◌≡◌, cond, List, ℕ, ◌≤◌, length, drop};
 ghost use Rattle.octets.specs.Lists.{lay};
 ghost use Rattle.refusal.specs.Refusals.{refusal, told};
@@ -19,7 +21,7 @@ use message_walk::{Judged, Rule, Walked};
 use refusal::{Output, Refusal};
 
 // What the cleaning writer answers: as the exact one, and the set of the fields that it padded, empty where it refuses.
-#[derive(Drop)]
+#[derive(Clone, Copy)]
 pub struct Cleaned {
     pub answer: Output,
     pub padded: FieldSet,
@@ -27,7 +29,7 @@ pub struct Cleaned {
 
 // What the first walk of a writer gathers: how it ended; the fields that the notes name, those of them that are short, and how many bytes
 // they take. The sets are empty and the size is 0 where it was refused.
-#[derive(Drop)]
+#[derive(Clone, Copy)]
 struct Weighed {
     end: Walked,
     fields: FieldSet,

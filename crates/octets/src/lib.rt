@@ -1,4 +1,6 @@
 // Bytes and the numbers written in them. Nothing here knows of ISO 8583.
+#![tactic(auto)]
+
 ghost use Rattle.std.specs.Prelude.{◌≡◌, cond, ◌+◌, ◌-◌, ◌≤◌, ◌<◌, length, replicate, leb};
 ghost use Rattle.octets.specs.Lists.{all, between, lead, lay, placed};
 ghost use Rattle.octets.specs.Numbers.{are_digits, digits, decimal, decimal_of, big_endian, big_endian_of};

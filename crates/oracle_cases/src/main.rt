@@ -1,5 +1,7 @@
 // Replays a sample of the comparison with the Rust crate iso8583-core 0.1.0. Each line of the input is a case, and each line printed is
 // the answer here. The stored output is what the Rust crate answered: oracle/README.md says how both files are made.
+#![tactic(auto)]
+
 ghost use Rattle.std.specs.Prelude.{◌<◌};
 
 use encoding_length::{Encoding, Measured};

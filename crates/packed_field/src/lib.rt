@@ -1,4 +1,6 @@
 // One field of a message in either script, plain or packed: where it stands, and whether it is good. 02, P3.
+#![tactic(auto)]
+
 ghost use Rattle.std.specs.Prelude.{◌≡◌, true, ◌≤◌, length};
 ghost use Rattle.octets.specs.Lists.{lead};
 ghost use Rattle.field_table.specs.Codes.{decoded};
@@ -10,7 +12,7 @@ use field_table::Class;
 
 // How the digits of an MTI, of a length and of a content of class n are spelt: plain, a byte each, or packed, in BCD. Nothing else of a
 // message differs.
-#[derive(Drop)]
+#[derive(Clone, Copy)]
 pub enum Script {
     Plain,
     Packed,
@@ -18,7 +20,7 @@ pub enum Script {
 
 // A field at the front of the rest: its length digits take start bytes, its content has count digits or bytes and takes size bytes behind
 // them, and in the other script the whole field takes carried bytes. Or the number of the refusal.
-#[derive(Drop)]
+#[derive(Clone, Copy)]
 pub enum Item {
     Found {
         start: usize,

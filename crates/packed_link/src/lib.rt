@@ -1,4 +1,6 @@
 // The packed link: a message carried over from one script into the other. 02, P3.
+#![tactic(auto)]
+
 ghost use Rattle.std.specs.Prelude.{◌≡◌, true, ℕ, ◌≤◌, ◌+◌, ◌*◌, length, drop};
 ghost use Rattle.octets.specs.Lists.{lay};
 ghost use Rattle.field_table.specs.House.{house};
@@ -15,14 +17,14 @@ use packed_field::{Item, Script};
 use refusal::Refusal;
 
 // The bytes used of the input and the bytes written, or the refusal.
-#[derive(Drop)]
+#[derive(Clone, Copy)]
 pub enum Translated {
     Done { used: usize, written: usize },
     Refused(Refusal),
 }
 
 // What judging finds: the bytes used and the bytes to be written, or the refusal. It is open since theorems above name it.
-#[derive(Drop)]
+#[derive(Clone, Copy)]
 pub enum Judged {
     Good { used: usize, written: usize },
     Refused(Refusal),

@@ -1,9 +1,11 @@
 // What a routine answers when it refuses: 01's numbers, by name. Nothing here knows how any routine works.
+#![tactic(auto)]
+
 ghost use Rattle.std.specs.Prelude.{◌≡◌};
 ghost use Rattle.refusal.specs.Refusals.{checked};
 
 // 01: "An answer holds number, field (0 if none) and position."
-#[derive(Drop)]
+#[derive(Clone, Copy)]
 pub struct Refusal {
     pub number: u8,
     pub field: usize,
@@ -11,14 +13,14 @@ pub struct Refusal {
 }
 
 // What a routine that writes answers: how many bytes it wrote, or why it wrote none.
-#[derive(Drop)]
+#[derive(Clone, Copy)]
 pub enum Output {
     Written(usize),
     Refused(Refusal),
 }
 
 // What a check answers: nothing is wrong, or why it fails.
-#[derive(Drop)]
+#[derive(Clone, Copy)]
 pub enum Checked {
     Passed,
     Refused(Refusal),

@@ -1,5 +1,7 @@
 // The till program: reads a message from standard input and prints what stands in it, or why it is refused. 01, "The till program
 // reads standard input (at most 60,000 bytes)".
+#![tactic(auto)]
+
 use libc::STDIN_FILENO;
 
 fn main() {

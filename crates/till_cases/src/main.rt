@@ -1,4 +1,6 @@
 // Runs what the till program runs, on the stored inputs that its arguments name. Each prints its name and then the report's lines.
+#![tactic(auto)]
+
 use libc::STDOUT_FILENO;
 
 fn main() {

@@ -1,5 +1,7 @@
 // What the till program does with its input: reads it, and prints the report's lines. The program and its stored cases share it. 01,
 // "The till program reads standard input (at most 60,000 bytes)".
+#![tactic(auto)]
+
 use libc::STDOUT_FILENO;
 
 // Reads an open file to its end, or one byte further than a report takes, and prints the report of what was read.

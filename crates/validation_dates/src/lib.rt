@@ -1,4 +1,6 @@
 // The checks of a date, MMDD, and of a time of day, hhmmss. 01, "Checks and conversions".
+#![tactic(auto)]
+
 ghost use Rattle.std.specs.Prelude.{◌≡◌, ◌+◌, ◌≤◌, length};
 ghost use Rattle.octets.specs.Lists.{between};
 ghost use Rattle.refusal.specs.Refusals.{checked, told_checked};

@@ -1,4 +1,6 @@
 // The field check: whether a content may stand in a field, by 01's table. Nothing is changed. 01, "Checks and conversions".
+#![tactic(auto)]
+
 ghost use Rattle.std.specs.Prelude.{◌≡◌};
 ghost use Rattle.refusal.specs.Refusals.{checked, told_checked};
 ghost use Rattle.field_table.specs.House.{house};

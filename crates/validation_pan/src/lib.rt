@@ -1,4 +1,6 @@
 // The check of a primary account number (PAN), by Luhn's formula. 01, "Checks and conversions".
+#![tactic(auto)]
+
 ghost use Rattle.std.specs.Prelude.{◌≡◌, ◌-◌, ◌%◌, ◌<◌, ◌≤◌, length};
 ghost use Rattle.refusal.specs.Refusals.{checked, told_checked};
 ghost use Rattle.validation_pan.specs.Pan.{digits_in, worth, luhn_sum, is_pan, pan_fault};

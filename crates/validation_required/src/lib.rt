@@ -1,4 +1,6 @@
 // Required fields, by the MTI. 01, "Checks and conversions".
+#![tactic(auto)]
+
 ghost use Rattle.std.specs.Prelude.{◌≡◌, length};
 ghost use Rattle.refusal.specs.Refusals.{told_checked};
 ghost use Rattle.field_table.specs.House.{house};
