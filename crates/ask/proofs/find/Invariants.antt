@@ -1,0 +1,13 @@
+-- `find` meets its contract and ends. The loop's invariant: `i` is at most the length; the bytes left fall.
+--
+-- Assumes nothing.
+use Prim.Native.Nat.{◌-◌, ◌≤◌}
+use lib.ListN.{length}
+use borrow.Author.Rules.{rules}
+use Rattle.ask.proofs.find.Given as goal
+
+abbrev pub invariant-loop-i : goal.invariant-loop-i
+invariant-loop-i l = l.i ≤ length l.s
+
+abbrev pub decreases-loop-i : goal.decreases-loop-i
+decreases-loop-i l = length l.s - l.i

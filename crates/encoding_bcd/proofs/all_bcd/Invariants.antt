@@ -1,0 +1,15 @@
+use mathlib.Core.Path.{◌≡◌}
+use Prim.Native.Nat.{◌≤◌, ◌-◌}
+use lib.ListN.{length, drop}
+use Rattle.octets.specs.Lists.{all}
+use Rattle.octets.proofs.Cases.{tested_true, tested_false}
+use Rattle.octets.proofs.Lists.{all_next, all_false, all_true}
+use Rattle.encoding_bcd.specs.Bcd.{is_bcd}
+use borrow.Author.Rules.{rules}
+use Rattle.encoding_bcd.proofs.all_bcd.Given as goal
+
+abbrev pub invariant-loop-i : goal.invariant-loop-i
+invariant-loop-i l = (l.i ≤ length l.src) × (all is_bcd l.src ≡ all is_bcd (drop l.i l.src))
+
+abbrev pub decreases-loop-i : goal.decreases-loop-i
+decreases-loop-i l = length l.src - l.i

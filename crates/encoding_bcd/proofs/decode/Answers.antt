@@ -1,0 +1,17 @@
+-- A conversion has three ends: the source fails, the output is too short, or the bytes are written.
+use Rattle.refusal.proofs.Conversions.{refused_answer, refused_output, short_answer, short_output, done_answer, done_output, answer_tells}
+use Rattle.encoding_bcd.proofs.Faults.{decode_clean, unpacked_sized}
+use borrow.Author.Rules.{rules}
+use Rattle.encoding_bcd.proofs.decode.Goals as goal
+
+pub returns-then-fault-ne0 : goal.returns-then-fault-ne0
+returns-then-fault-ne0 c = let r = answer_tells (search (refused_answer, rules)) (search (refused_output, rules)) in record { answers = r.0; tells = r.1.0; writes = r.1.1 }
+
+pub returns-then-out-digits : goal.returns-then-out-digits
+returns-then-out-digits c = let r = answer_tells (search (short_answer, unpacked_sized, rules)) (search (short_output, unpacked_sized, rules)) in record { answers = r.0; tells = r.1.0; writes = r.1.1 }
+
+pub put_unpacked-requires : goal.put_unpacked-requires
+put_unpacked-requires c = record { src_len = search (decode_clean, rules); digits_in_bounds = search rules }
+
+pub returns : goal.returns
+returns c = let r = answer_tells (search (done_answer, unpacked_sized, rules)) (search (done_output, unpacked_sized, rules)) in record { answers = r.0; tells = r.1.0; writes = r.1.1 }

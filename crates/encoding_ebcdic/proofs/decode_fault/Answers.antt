@@ -1,0 +1,30 @@
+-- So far the whole test is the test of what is left from i on.
+use mathlib.Core.Path.{◌≡◌}
+use Prim.Native.Nat.{◌≤◌, ◌-◌}
+use lib.ListN.{length, get_or, drop}
+use Rattle.octets.specs.Lists.{all}
+use Rattle.octets.proofs.Lists.{all_next}
+use Rattle.encoding_ebcdic.specs.Ebcdic.{ascii_of, means_ascii}
+use Rattle.encoding_ebcdic.proofs.Permutation.{read_means}
+use Rattle.encoding_ebcdic.proofs.Faults.{no_meaning, a_meaning, meaning_fails, meaning_passes}
+use borrow.Author.Rules.{rules}
+use native.Mathlib.Omega.{arith}
+use Rattle.encoding_ebcdic.proofs.decode_fault.Goals as goal
+
+pub overflow_cast-src : goal.overflow_cast-src
+overflow_cast-src c = omega (arith, c.shared_slice_known-1.given c.loop-i.i)
+
+pub bounds-meanings-src : goal.bounds-meanings-src
+bounds-meanings-src c = omega (arith, c.shared_slice_known-1.given c.loop-i.i)
+
+pub returns-then-meanings-src-gt127 : goal.returns-then-meanings-src-gt127
+returns-then-meanings-src-gt127 c = let over = no_meaning _ _ ((read_means _ c.requires _
+    (omega (arith, c.shared_slice_known-1.given c.loop-i.i)))) (omega (arith, c.if-meanings-src-gt127.true)) in
+    search (meaning_fails, over, rules)
+
+pub loop-i-preserved : goal.loop-i-preserved
+loop-i-preserved c = (search rules, search (all_next, a_meaning, (read_means _ c.requires _
+    (omega (arith, c.shared_slice_known-1.given c.loop-i.i))), rules))
+
+pub returns : goal.returns
+returns c = search (meaning_passes, rules)

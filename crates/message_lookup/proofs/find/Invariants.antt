@@ -1,0 +1,15 @@
+use Prim.Native.Nat.{◌+◌, ◌-◌}
+use lib.ListN.{length}
+use native.Mathlib.Omega.{arith}
+use Rattle.message_notes.specs.Dialect.{plain_form}
+use Rattle.message_walk.specs.Walk.{listed_in}
+use Rattle.message_walk.proofs.Loops.{Reading, reading_first, Read, read_malformed, read_end, read_room, read_here, read_next}
+use Rattle.message_lookup.proofs.Finding.{Finding, finding_first, finding_none, finding_here, finding_next}
+use borrow.Author.Rules.{rules}
+use Rattle.message_lookup.proofs.find.Given as goal
+
+abbrev pub invariant-loop-at : goal.invariant-loop-at
+invariant-loop-at l = Reading plain_form l.notes (Finding l.number l.end (listed_in plain_form l.notes)) l.at
+
+abbrev pub decreases-loop-at : goal.decreases-loop-at
+decreases-loop-at l = length l.notes + 1 - l.at

@@ -1,0 +1,11 @@
+-- `main` is safe and ends. The loop's invariant says nothing; the cases left to run fall.
+--
+-- Assumes nothing.
+use borrow.Author.Rules.{rules}
+use Rattle.oracle_cases.proofs.main.Given as goal
+
+abbrev pub invariant-loop-left : goal.invariant-loop-left
+invariant-loop-left l = Unit {0}
+
+abbrev pub decreases-loop-left : goal.decreases-loop-left
+decreases-loop-left l = l.left

@@ -1,0 +1,15 @@
+-- The line is one of three words and their numbers.
+use Prim.Native.Nat.{◌-◌}
+use Rattle.till_lines.specs.Lines.{field_line}
+use Rattle.till_lines.proofs.Writing.{tripled_long, named_long}
+use native.Mathlib.Omega.{arith}
+use borrow.Author.Rules.{rules}
+use Rattle.till_lines.proofs.put_field.Goals as goal
+
+pub put_tripled-requires : goal.put_tripled-requires
+unfolding field_line
+put_tripled-requires c = simp (tripled_long, named_long) (omega (arith, simp (tripled_long, named_long) at c.requires))
+
+pub returns : goal.returns
+unfolding field_line
+returns c = let r = c.put_tripled.ensures in record { size = r.0; writes = r.1 }

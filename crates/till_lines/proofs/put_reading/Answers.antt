@@ -1,0 +1,93 @@
+-- What is written, the lines of the fields whose notes are left and the line of the end make the whole (Walking).
+use mathlib.Core.Path.{◌≡◌, sym, ◌∙◌}
+use Prim.Native.Nat.{◌-◌}
+use lib.ListN.{length, drop}
+use lib.Seq.{length-take-le}
+use Rattle.field_table.specs.House.{house}
+use Rattle.message_notes.specs.declared.Note.{Note}
+use Rattle.message_notes.specs.declared.Note.TheVariants.{Field, End}
+use Rattle.message_notes.specs.Dialect.{plain_form}
+use Rattle.message_notes.specs.Notes.{note_at}
+use Rattle.message_reader.specs.Reader.{reading_with}
+use Rattle.till_lines.specs.Lines.{reading_lines}
+use Rattle.till_lines.proofs.Reading.{Opened, Begun, Headed, input_four, lines_room, mti_fits, begun_room, begun_size, maps_fits, headed_room, headed_size, headed_over, walked_first}
+use Rattle.till_lines.proofs.Walking.{Walked, note_part, walked_inside, field_room, field_within, field_inside, walked_field, end_room, walked_end, never_malformed}
+use Rattle.till_lines.proofs.Writing.{as_long}
+use native.Mathlib.Omega.{arith}
+use borrow.Author.Rules.{rules}
+use Rattle.till_lines.proofs.put_reading.Goals as goal
+
+pub slice_bounds-put_mti-end : goal.slice_bounds-put_mti-end
+slice_bounds-put_mti-end c = sym (length-take-le 4 c.args.input.now (input_four ((record { short = c.requires.input_len_bound; read = c.requires.input_value; room = c.requires.text_room_in_bounds }))))
+
+pub put_mti-written-requires : goal.put_mti-written-requires
+put_mti-written-requires c = mti_fits ((record { short = c.requires.input_len_bound; read = c.requires.input_value; room = c.requires.text_room_in_bounds }))
+
+pub slice_bounds-put_named-count : goal.slice_bounds-put_named-count
+slice_bounds-put_named-count c = omega (arith, begun_size ((record { opened = (record { short = c.requires.input_len_bound; read = c.requires.input_value; room = c.requires.text_room_in_bounds }); count = c.put_mti-written.ensures.size; laid = c.put_mti-written.ensures.writes })), begun_room ((record { opened = (record { short = c.requires.input_len_bound; read = c.requires.input_value; room = c.requires.text_room_in_bounds }); count = c.put_mti-written.ensures.size; laid = c.put_mti-written.ensures.writes })), c.requires.text_room_in_bounds)
+
+pub slice_bounds-put_named-start : goal.slice_bounds-put_named-start
+slice_bounds-put_named-start c = omega (arith, begun_size ((record { opened = (record { short = c.requires.input_len_bound; read = c.requires.input_value; room = c.requires.text_room_in_bounds }); count = c.put_mti-written.ensures.size; laid = c.put_mti-written.ensures.writes })), begun_room ((record { opened = (record { short = c.requires.input_len_bound; read = c.requires.input_value; room = c.requires.text_room_in_bounds }); count = c.put_mti-written.ensures.size; laid = c.put_mti-written.ensures.writes })), c.requires.text_room_in_bounds)
+
+pub put_named-written-requires : goal.put_named-written-requires
+put_named-written-requires c = maps_fits ((record { opened = (record { short = c.requires.input_len_bound; read = c.requires.input_value; room = c.requires.text_room_in_bounds }); count = c.put_mti-written.ensures.size; laid = c.put_mti-written.ensures.writes }))
+
+pub overflow_add-written : goal.overflow_add-written
+overflow_add-written c = omega (arith, headed_room ((record { begun = (record { opened = (record { short = c.requires.input_len_bound; read = c.requires.input_value; room = c.requires.text_room_in_bounds }); count = c.put_mti-written.ensures.size; laid = c.put_mti-written.ensures.writes }); count = c.put_named-written.ensures.size; laid = c.put_named-written.ensures.writes })))
+
+pub loop-at-init : goal.loop-at-init
+loop-at-init c = walked_first ((record { begun = (record { opened = (record { short = c.requires.input_len_bound; read = c.requires.input_value; room = c.requires.text_room_in_bounds }); count = c.put_mti-written.ensures.size; laid = c.put_mti-written.ensures.writes }); count = c.put_named-written.ensures.size; laid = c.put_named-written.ensures.writes })) c.args.notes.now c.requires.notes_value
+
+pub slice_bounds-put_field-count : goal.slice_bounds-put_field-count
+slice_bounds-put_field-count c = omega (arith, c.loop-at.invariant.written.within)
+
+pub slice_bounds-put_field-start : goal.slice_bounds-put_field-start
+slice_bounds-put_field-start c = omega (arith, c.loop-at.invariant.written.within)
+
+pub put_field-written-requires : goal.put_field-written-requires
+put_field-written-requires c = field_room c.loop-at.invariant ((note_part c.args.notes.now c.loop-at.at _ _ c.read_note.ensures c.in-Field.is))
+
+pub overflow_add-written-in-Field : goal.overflow_add-written-in-Field
+overflow_add-written-in-Field c = omega (arith, c.put_field-written.ensures.size, field_within c.loop-at.invariant ((note_part c.args.notes.now c.loop-at.at _ _ c.read_note.ensures c.in-Field.is)), lines_room ((record { short = c.requires.input_len_bound; read = c.requires.input_value; room = c.requires.text_room_in_bounds })))
+
+pub overflow_add-at : goal.overflow_add-at
+overflow_add-at c = omega (arith, field_inside c.loop-at.invariant ((note_part c.args.notes.now c.loop-at.at _ _ c.read_note.ensures c.in-Field.is)))
+
+pub loop-at-smaller : goal.loop-at-smaller
+loop-at-smaller c = omega (arith, c.loop-at-test.true)
+
+pub loop-at-preserved : goal.loop-at-preserved
+loop-at-preserved c = walked_field c.loop-at.invariant ((note_part c.args.notes.now c.loop-at.at _ _ c.read_note.ensures c.in-Field.is)) c.put_field-written.ensures.size c.put_field-written.ensures.writes
+
+pub slice_bounds-put_named-count-in-End : goal.slice_bounds-put_named-count-in-End
+slice_bounds-put_named-count-in-End c = omega (arith, c.loop-at.invariant.written.within)
+
+pub slice_bounds-put_named-start-in-End : goal.slice_bounds-put_named-start-in-End
+slice_bounds-put_named-start-in-End c = omega (arith, c.loop-at.invariant.written.within)
+
+pub put_named-requires : goal.put_named-requires
+put_named-requires c = end_room c.loop-at.invariant ((note_part c.args.notes.now c.loop-at.at _ _ c.read_note.ensures c.in-End.is))
+
+pub overflow_add-result : goal.overflow_add-result
+overflow_add-result c = omega (arith, (walked_end c.loop-at.invariant ((note_part c.args.notes.now c.loop-at.at _ _ c.read_note.ensures c.in-End.is)) c.put_named.ensures.size c.put_named.ensures.writes).0, lines_room ((record { short = c.requires.input_len_bound; read = c.requires.input_value; room = c.requires.text_room_in_bounds })))
+
+pub shape_of-text-in-End : goal.shape_of-text-in-End
+shape_of-text-in-End c = as_long _ _ _ (walked_end c.loop-at.invariant ((note_part c.args.notes.now c.loop-at.at _ _ c.read_note.ensures c.in-End.is)) c.put_named.ensures.size c.put_named.ensures.writes).1 c.loop-at.invariant.room ∙ headed_size ((record { begun = (record { opened = (record { short = c.requires.input_len_bound; read = c.requires.input_value; room = c.requires.text_room_in_bounds }); count = c.put_mti-written.ensures.size; laid = c.put_mti-written.ensures.writes }); count = c.put_named-written.ensures.size; laid = c.put_named-written.ensures.writes }))
+
+pub returns-in-End : goal.returns-in-End
+returns-in-End c = let e = walked_end c.loop-at.invariant ((note_part c.args.notes.now c.loop-at.at _ _ c.read_note.ensures c.in-End.is)) c.put_named.ensures.size c.put_named.ensures.writes in
+    record { size = e.0; writes = e.1 ∙ headed_over ((record { begun = (record { opened = (record { short = c.requires.input_len_bound; read = c.requires.input_value; room = c.requires.text_room_in_bounds }); count = c.put_mti-written.ensures.size; laid = c.put_mti-written.ensures.writes }); count = c.put_named-written.ensures.size; laid = c.put_named-written.ensures.writes })) }
+
+pub shape_of-text-in-Malformed : goal.shape_of-text-in-Malformed
+shape_of-text-in-Malformed c = absurd ((never_malformed c.loop-at.invariant
+    (note_part c.args.notes.now c.loop-at.at _ _ c.read_note.ensures c.in-Malformed.is)))
+
+pub returns-in-Malformed : goal.returns-in-Malformed
+returns-in-Malformed c = absurd ((never_malformed c.loop-at.invariant
+    (note_part c.args.notes.now c.loop-at.at _ _ c.read_note.ensures c.in-Malformed.is)))
+
+pub shape_of-text : goal.shape_of-text
+shape_of-text c = absurd ((omega (arith, c.loop-at-test.false, walked_inside c.loop-at.invariant)))
+
+pub returns : goal.returns
+returns c = absurd ((omega (arith, c.loop-at-test.false, walked_inside c.loop-at.invariant)))

@@ -1,0 +1,18 @@
+-- The line is one of three words and their numbers, which are a machine's.
+use Prim.Native.Nat.{◌<◌, ◌-◌}
+use Rattle.till_lines.specs.Lines.{refused_line}
+use Rattle.till_lines.proofs.Sizes.{refused_most}
+use borrow.Author.Rules.{rules}
+use native.Mathlib.Omega.{arith}
+use Rattle.till_lines.proofs.put_refused.Goals as goal
+
+pub put_tripled-requires : goal.put_tripled-requires
+unfolding refused_line
+put_tripled-requires c = let n : c.args.refusal.number < 256 = omega (arith, c.wide-number.ensures.value, c.wide-number.ensures.small) in
+    let f : c.args.refusal.field < 18446744073709551616 = omega (arith, c.before.before.before.before.before.before.well-formed.0) in
+    let p : c.args.refusal.position < 18446744073709551616 = omega (arith, c.before.before.before.before.before.before.well-formed.0) in
+    rw c.wide-number.ensures.value (omega (arith, refused_most c.args.refusal n f p, c.requires))
+
+pub returns : goal.returns
+unfolding refused_line
+returns c = let r = rw (← c.wide-number.ensures.value) c.put_tripled.ensures in record { size = r.0; writes = r.1 }

@@ -1,0 +1,20 @@
+-- One law for each end, in Dates.
+use Rattle.octets.proofs.Numbers.{are_digits_room}
+use Rattle.validation_dates.proofs.Dates.{date_no_digits, date_no_month, date_day}
+use borrow.Author.Rules.{rules}
+use Rattle.validation_dates.proofs.is_date.Goals as goal
+
+pub returns-then-not-are_digits : goal.returns-then-not-are_digits
+returns-then-not-are_digits c = search (date_no_digits, rules)
+
+pub is_pair_between-requires : goal.is_pair_between-requires
+is_pair_between-requires c = search (are_digits_room, rules)
+
+pub returns-then-not-is_pair_between : goal.returns-then-not-is_pair_between
+returns-then-not-is_pair_between c = search (date_no_month, rules)
+
+pub is_pair_between-requires-2 : goal.is_pair_between-requires-2
+is_pair_between-requires-2 c = search (are_digits_room, rules)
+
+pub returns : goal.returns
+returns c = search (date_day, rules)

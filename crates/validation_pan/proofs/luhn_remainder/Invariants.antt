@@ -1,0 +1,9 @@
+use Rattle.validation_pan.proofs.Digits.{digit_least, Weighing, weighing_first, weighing_digit, weighing_other, weighing_done}
+use borrow.Author.Rules.{rules}
+use Rattle.validation_pan.proofs.luhn_remainder.Given as goal
+
+abbrev pub invariant-loop-i : goal.invariant-loop-i
+invariant-loop-i l = Weighing l.s l.sum l.doubles l.i
+
+abbrev pub decreases-loop-i : goal.decreases-loop-i
+decreases-loop-i l = l.i
