@@ -22,7 +22,7 @@ pub overflow_cast-numbers : goal.overflow_cast-numbers
 overflow_cast-numbers c = omega (arith, (first_bit c.loop-rest.rest c.loop-rest.invariant.small ((λ z. omega (arith, c.loop-rest-test.true)))))
 
 pub bounds-numbers-n : goal.bounds-numbers-n
-bounds-numbers-n c = search (listing_fits, (λ z. omega (arith, c.loop-rest-test.true)), rules)
+bounds-numbers-n c = let some : c.loop-rest.rest ≡ 0 → ⊥ = λ z. omega (arith, c.loop-rest-test.true) in search (listing_fits, some, rules)
 
 pub overflow_sub-rest : goal.overflow_sub-rest
 overflow_sub-rest c = omega (arith, (first_bit c.loop-rest.rest c.loop-rest.invariant.small ((λ z. omega (arith, c.loop-rest-test.true)))))
@@ -34,7 +34,7 @@ pub loop-rest-smaller : goal.loop-rest-smaller
 loop-rest-smaller c = omega (arith, (first_bit c.loop-rest.rest c.loop-rest.invariant.small ((λ z. omega (arith, c.loop-rest-test.true)))))
 
 pub loop-rest-preserved : goal.loop-rest-preserved
-loop-rest-preserved c = search (listing_more, (λ z. omega (arith, c.loop-rest-test.true)), rules)
+loop-rest-preserved c = let some : c.loop-rest.rest ≡ 0 → ⊥ = λ z. omega (arith, c.loop-rest-test.true) in search (listing_more, some, rules)
 
 pub returns : goal.returns
 returns c = let r = listing_end _ _ _ _ _ _ c.loop-rest.invariant (search rules) (omega (arith, c.loop-rest-test.false)) in record { count = r.0; writes = r.1 }

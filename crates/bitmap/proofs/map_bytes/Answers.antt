@@ -20,7 +20,7 @@ pub loop-i-preserved : goal.loop-i-preserved
 loop-i-preserved c = (
       search rules,
       (
-        laid_step _ _ _ _ _ c.loop-i.invariant.1.0 (omega (arith, maps_length c.args.count c.args.t2)) (omega arith)
+        laid_step _ _ _ _ _ c.loop-i.invariant.1.0 (omega (arith, maps_length c.args.count c.args.bits)) (omega arith)
             (maps_at _ _ _ _ (search rules) c.map_byte.ensures.made),
         (search rules, all_set (between 0 255) c.loop-i.bytes c.loop-i.i _ c.loop-i.invariant.1.1.1 (is_between 0 255 _ (omega arith) (omega (arith, c.map_byte.ensures.byte)))),
       ),

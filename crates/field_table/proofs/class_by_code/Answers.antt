@@ -1,5 +1,6 @@
 -- One arm for each number, and b for any other.
 use Prim.Native.Nat.{◌-◌}
+use native.Mathlib.Omega.{arith}
 use borrow.Author.Tests.{ne_eqb}
 use Rattle.field_table.proofs.class_by_code.Goals as goal
 
@@ -25,4 +26,4 @@ pub returns-in-7 : goal.returns-in-7
 returns-in-7 c = rw c.in-7.is
 
 pub returns-in_default : goal.returns-in_default
-returns-in_default c = rw (ne_eqb _ 1 c.in_default.rest.0.0.0.0.0.0.1, ne_eqb _ 2 c.in_default.rest.0.0.0.0.0.1, ne_eqb _ 3 c.in_default.rest.0.0.0.0.1, ne_eqb _ 4 c.in_default.rest.0.0.0.1, ne_eqb _ 5 c.in_default.rest.0.0.1, ne_eqb _ 6 c.in_default.rest.0.1, ne_eqb _ 7 c.in_default.rest.1)
+returns-in_default c = rw (ne_eqb c.args.code 1 (omega arith), ne_eqb c.args.code 2 (omega arith), ne_eqb c.args.code 3 (omega arith), ne_eqb c.args.code 4 (omega arith), ne_eqb c.args.code 5 (omega arith), ne_eqb c.args.code 6 (omega arith), ne_eqb c.args.code 7 (omega arith))
