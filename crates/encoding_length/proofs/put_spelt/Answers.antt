@@ -6,7 +6,7 @@ use Rattle.encoding_length.proofs.put_spelt.Goals as goal
 
 pub returns-in-Ascii : goal.returns-in-Ascii
 unfolding spelt
-returns-in-Ascii c = let r = same_conversion _ _ _ _ _ _ _ (ascii_clean _ c.requires) (rw c.in-Ascii.is) c.copy.ensures in record { answers = r.0; writes = r.1 }
+returns-in-Ascii c = let r = same_conversion _ _ _ _ _ _ _ (ascii_clean _ c.requires) (rw c.in-Ascii.is) (c.copy.ensures.answers, c.copy.ensures.writes) in record { answers = r.0; writes = r.1 }
 
 pub returns-in-Bcd : goal.returns-in-Bcd
 unfolding spelt

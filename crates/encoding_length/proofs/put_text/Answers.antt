@@ -6,7 +6,7 @@ use Rattle.encoding_length.proofs.put_text.Goals as goal
 
 pub returns-in-Ascii : goal.returns-in-Ascii
 unfolding alphabet_fault text_of
-returns-in-Ascii c = let r = same_conversion _ _ _ _ _ _ _ (rw c.in-Ascii.is) (rw c.in-Ascii.is) c.copy.ensures in record { answers = r.0; writes = r.1 }
+returns-in-Ascii c = let r = same_conversion _ _ _ _ _ _ _ (rw c.in-Ascii.is) (rw c.in-Ascii.is) (c.copy.ensures.answers, c.copy.ensures.writes) in record { answers = r.0; writes = r.1 }
 
 pub returns-in-Bcd : goal.returns-in-Bcd
 unfolding alphabet_fault text_of

@@ -30,5 +30,5 @@ pub returns-then-not-is_allowed : goal.returns-then-not-is_allowed
 returns-then-not-is_allowed c = search (item_high, rules)
 
 pub returns : goal.returns
-returns c = item_read _ _ _ _ c.if-rest-width.false _ c.all_between.ensures c.if-not-all_between.false _ c.content_length-length.ensures c.if-most-length.false
-    c.if-rest-width-2.false _ c.is_allowed.ensures c.if-not-is_allowed.false
+returns c = item_read _ _ _ _ c.if-rest-width.false _ c.all_between.ensures (rw c.if-not-all_between.false) _ c.content_length-length.ensures c.if-most-length.false
+    c.if-rest-width-2.false _ c.is_allowed.ensures (rw c.if-not-is_allowed.false)

@@ -13,7 +13,7 @@ pub slice_bounds-carry-end : goal.slice_bounds-carry-end
 slice_bounds-carry-end c = sym (length-take-le _ c.args.rest.now (omega (arith, item_within _ _ _ _ _ _ _ _ c.requires.1.0)))
 
 pub overflow_add-end : goal.overflow_add-end
-overflow_add-end c = omega (arith, item_within _ _ _ _ _ _ _ _ c.requires.1.0, c.before.before.before.before.before.before.before.before.before.before.before.before.well-formed.0)
+overflow_add-end c = omega (arith, item_within _ _ _ _ _ _ _ _ c.requires.1.0)
 
 pub slice_bounds-carry_content-end : goal.slice_bounds-carry_content-end
 slice_bounds-carry_content-end c = omega (arith, item_within _ _ _ _ _ _ _ _ c.requires.1.0)

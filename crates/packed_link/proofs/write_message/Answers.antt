@@ -14,7 +14,7 @@ pub overflow_mul-maps : goal.overflow_mul-maps
 overflow_mul-maps c = omega (arith, few _ (decoded c.args.table.now) _ _ c.args.out.now _ c.requires.input_value c.requires.fields_value _ c.size_of-start.ensures)
 
 pub overflow_add-end : goal.overflow_add-end
-overflow_add-end c = omega (arith, (inside _ (decoded c.args.table.now) _ _ c.args.out.now _ c.requires.input_value c.requires.fields_value _ c.size_of-start.ensures), c.before.before.before.before.before.well-formed.0)
+overflow_add-end c = omega (arith, (inside _ (decoded c.args.table.now) _ _ c.args.out.now _ c.requires.input_value c.requires.fields_value _ c.size_of-start.ensures))
 
 pub slice_bounds-carry-end : goal.slice_bounds-carry-end
 slice_bounds-carry-end c = sym (length-take-le _ c.args.input.now (omega (arith, (inside _ (decoded c.args.table.now) _ _ c.args.out.now _ c.requires.input_value c.requires.fields_value _ c.size_of-start.ensures))))
@@ -29,7 +29,7 @@ pub slice_bounds-put-start-2 : goal.slice_bounds-put-start-2
 slice_bounds-put-start-2 c = omega (arith, (fields_room _ (decoded c.args.table.now) _ _ c.args.out.now _ c.requires.input_value c.requires.fields_value _ c.size_of-start.ensures _ c.other_script.ensures _ c.size_of-first.ensures _ _ c.requires.by_index.2.0 c.requires.by_index.2.1), c.out-1.given)
 
 pub overflow_add-behind : goal.overflow_add-behind
-overflow_add-behind c = omega (arith, (fields_room _ (decoded c.args.table.now) _ _ c.args.out.now _ c.requires.input_value c.requires.fields_value _ c.size_of-start.ensures _ c.other_script.ensures _ c.size_of-first.ensures _ _ c.requires.by_index.2.0 c.requires.by_index.2.1), c.before.before.before.before.before.before.before.before.before.before.before.before.before.before.before.before.before.well-formed.1.1.1.1.1.0)
+overflow_add-behind c = omega (arith, (fields_room _ (decoded c.args.table.now) _ _ c.args.out.now _ c.requires.input_value c.requires.fields_value _ c.size_of-start.ensures _ c.other_script.ensures _ c.size_of-first.ensures _ _ c.requires.by_index.2.0 c.requires.by_index.2.1))
 
 pub slice_bounds-write_fields-count : goal.slice_bounds-write_fields-count
 slice_bounds-write_fields-count c = omega (arith, (fields_room _ (decoded c.args.table.now) _ _ c.args.out.now _ c.requires.input_value c.requires.fields_value _ c.size_of-start.ensures _ c.other_script.ensures _ c.size_of-first.ensures _ _ c.requires.by_index.2.0 c.requires.by_index.2.1), c.out-2-1.given, c.out-1.given)

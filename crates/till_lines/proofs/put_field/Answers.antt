@@ -12,4 +12,4 @@ put_tripled-requires c = simp (tripled_long, named_long) (omega (arith, simp (tr
 
 pub returns : goal.returns
 unfolding field_line
-returns c = let r = c.put_tripled.ensures in record { size = r.0; writes = r.1 }
+returns c = record { size = c.put_tripled.ensures.size; writes = c.put_tripled.ensures.writes }

@@ -9,10 +9,10 @@ use Rattle.till_lines.proofs.put_refused.Goals as goal
 pub put_tripled-requires : goal.put_tripled-requires
 unfolding refused_line
 put_tripled-requires c = let n : c.args.refusal.number < 256 = omega (arith, c.wide-number.ensures.value, c.wide-number.ensures.small) in
-    let f : c.args.refusal.field < 18446744073709551616 = omega (arith, c.before.before.before.before.before.before.well-formed.0) in
-    let p : c.args.refusal.position < 18446744073709551616 = omega (arith, c.before.before.before.before.before.before.well-formed.0) in
+    let f : c.args.refusal.field < 18446744073709551616 = omega (arith) in
+    let p : c.args.refusal.position < 18446744073709551616 = omega (arith) in
     rw c.wide-number.ensures.value (omega (arith, refused_most c.args.refusal n f p, c.requires))
 
 pub returns : goal.returns
 unfolding refused_line
-returns c = let r = rw (← c.wide-number.ensures.value) c.put_tripled.ensures in record { size = r.0; writes = r.1 }
+returns c = let r = rw (← c.wide-number.ensures.value) (c.put_tripled.ensures.size, c.put_tripled.ensures.writes) in record { size = r.0; writes = r.1 }
