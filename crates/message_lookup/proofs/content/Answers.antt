@@ -19,8 +19,8 @@ slice_bounds-result-end-in-At c = let h = sym c.look_up.ensures.answers ∙ c.in
 
 pub returns-in-Refused : goal.returns-in-Refused
 returns-in-Refused c = let h = sym c.look_up.ensures.answers ∙ c.in-Refused.is in
-    let r = (part_none _ _ 0 _ h, (refl, place_none _ [] _ _ h)) in record { bytes = r.0; place = r.1 }
+    record { bytes = part_none _ _ 0 _ h; place = (refl, place_none _ [] _ _ h) }
 
 pub returns-in-At : goal.returns-in-At
 returns-in-At c = let h = sym c.look_up.ensures.answers ∙ c.in-At.is in
-    let r = (part_at _ _ 0 _ _ h, (refl, place_at _ [] _ _ _ h)) in record { bytes = r.0; place = r.1 }
+    record { bytes = part_at _ _ 0 _ _ h; place = (refl, place_at _ [] _ _ _ h) }

@@ -13,22 +13,22 @@ pub loop-at-init : goal.loop-at-init
 loop-at-init c = reading_first c.requires finding_first
 
 pub returns-in-Malformed : goal.returns-in-Malformed
-returns-in-Malformed c = finding_none (read_malformed ((record { loop = c.loop-at.invariant; note = c.read_note.ensures })) c.in-Malformed.is) c.absent.ensures
+returns-in-Malformed c = finding_none (read_malformed ((let it : Read plain_form c.args.notes.now (Finding c.args.number c.args.end (listed_in plain_form c.args.notes.now)) c.loop-at.at c.read_note.result = record { loop = c.loop-at.invariant; note = c.read_note.ensures } in it)) c.in-Malformed.is) c.absent.ensures
 
 pub returns-in-End : goal.returns-in-End
-returns-in-End c = finding_none (read_end ((record { loop = c.loop-at.invariant; note = c.read_note.ensures })) c.in-End.is) c.absent-in-End.ensures
+returns-in-End c = finding_none (read_end ((let it : Read plain_form c.args.notes.now (Finding c.args.number c.args.end (listed_in plain_form c.args.notes.now)) c.loop-at.at c.read_note.result = record { loop = c.loop-at.invariant; note = c.read_note.ensures } in it)) c.in-End.is) c.absent-in-End.ensures
 
 pub returns-then-here-number : goal.returns-then-here-number
-returns-then-here-number c = finding_here (read_here ((record { loop = c.loop-at.invariant; note = c.read_note.ensures })) c.in-Field.is) c.if-here-number.true
+returns-then-here-number c = finding_here (read_here ((let it : Read plain_form c.args.notes.now (Finding c.args.number c.args.end (listed_in plain_form c.args.notes.now)) c.loop-at.at c.read_note.result = record { loop = c.loop-at.invariant; note = c.read_note.ensures } in it)) c.in-Field.is) c.if-here-number.true
 
 pub overflow_add-at : goal.overflow_add-at
-overflow_add-at c = omega (arith, read_room ((record { loop = c.loop-at.invariant; note = c.read_note.ensures })) c.in-Field.is)
+overflow_add-at c = omega (arith, read_room ((let it : Read plain_form c.args.notes.now (Finding c.args.number c.args.end (listed_in plain_form c.args.notes.now)) c.loop-at.at c.read_note.result = record { loop = c.loop-at.invariant; note = c.read_note.ensures } in it)) c.in-Field.is)
 
 pub loop-at-smaller : goal.loop-at-smaller
-loop-at-smaller c = omega (arith, read_room ((record { loop = c.loop-at.invariant; note = c.read_note.ensures })) c.in-Field.is)
+loop-at-smaller c = omega (arith, read_room ((let it : Read plain_form c.args.notes.now (Finding c.args.number c.args.end (listed_in plain_form c.args.notes.now)) c.loop-at.at c.read_note.result = record { loop = c.loop-at.invariant; note = c.read_note.ensures } in it)) c.in-Field.is)
 
 pub loop-at-preserved : goal.loop-at-preserved
-loop-at-preserved c = let k = (record { loop = c.loop-at.invariant; note = c.read_note.ensures }) in
+loop-at-preserved c = let k = (let it : Read plain_form c.args.notes.now (Finding c.args.number c.args.end (listed_in plain_form c.args.notes.now)) c.loop-at.at c.read_note.result = record { loop = c.loop-at.invariant; note = c.read_note.ensures } in it) in
     read_next k c.in-Field.is (finding_next (read_here k c.in-Field.is) c.if-here-number.false)
 
 pub returns : goal.returns

@@ -6,7 +6,7 @@ use borrow.Author.Rules.{rules}
 use Rattle.message_notes.proofs.mti_in.Goals as goal
 
 pub returns-then-notes-lt-HEAD_SIZE : goal.returns-then-notes-lt-HEAD_SIZE
-returns-then-notes-lt-HEAD_SIZE c = let r = (mti_none c.args.notes.now c.if-notes-lt-HEAD_SIZE.true, (refl, omega (arith, front_place c.args.notes.now c.if-notes-lt-HEAD_SIZE.true))) in record { bytes = r.0; place = r.1 }
+returns-then-notes-lt-HEAD_SIZE c = record { bytes = mti_none c.args.notes.now c.if-notes-lt-HEAD_SIZE.true; place = (refl, omega (arith, front_place c.args.notes.now c.if-notes-lt-HEAD_SIZE.true)) }
 
 pub returns : goal.returns
-returns c = let r = (mti_some c.args.notes.now c.if-notes-lt-HEAD_SIZE.false, (refl, omega (arith, mti_place_lem c.args.notes.now c.if-notes-lt-HEAD_SIZE.false))) in record { bytes = r.0; place = r.1 }
+returns c = record { bytes = mti_some c.args.notes.now c.if-notes-lt-HEAD_SIZE.false; place = (refl, omega (arith, mti_place_lem c.args.notes.now c.if-notes-lt-HEAD_SIZE.false)) }

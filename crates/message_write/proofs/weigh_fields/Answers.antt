@@ -25,26 +25,26 @@ unfolding entries_by entries_in
 loop-at-init c = walking_first c.requires (weighing_first c.none-fields.ensures c.none-short.ensures)
 
 pub returns-in-Refused : goal.returns-in-Refused
-returns-in-Refused c = record { end = c.refused_at.ensures.end ∙ turn_refused ((record { loop = c.loop-at.invariant; judging = counted _ _ _ _ _ _ _ c.judge.ensures c.count_in-count.ensures })) c.in-Refused.is; fields = c.refused_at.ensures.fields ∙ refused_none _ _ _ c.refused_at.ensures.end; short = c.refused_at.ensures.short ∙ short_none _ _ _ _ c.refused_at.ensures.end; size = c.refused_at.ensures.size ∙ size_none _ _ _ _ c.refused_at.ensures.end; small = omega (arith, c.refused_at.ensures.size) }
+returns-in-Refused c = record { end = c.refused_at.ensures.end ∙ turn_refused ((let it : Turn plain_form ((fault_by (decoded c.args.table.now) c.args.values.now c.args.rule)) c.args.notes.now (ending plain_form ((fault_by (decoded c.args.table.now) c.args.values.now c.args.rule)) (count_in c.args.notes.now) (length c.args.notes.now) 0 head_size (drop head_size c.args.notes.now)) (Weighing (decoded c.args.table.now) ((entries_by (decoded c.args.table.now) c.args.values.now c.args.rule c.args.notes.now)) c.loop-at.fields.bits c.loop-at.short.bits c.loop-at.size c.loop-at.last) c.loop-at.at c.loop-at.last c.judge.result = record { loop = c.loop-at.invariant; judging = counted _ _ _ _ _ _ _ c.judge.ensures c.count_in-count.ensures } in it)) c.in-Refused.is; fields = c.refused_at.ensures.fields ∙ refused_none _ _ _ c.refused_at.ensures.end; short = c.refused_at.ensures.short ∙ short_none _ _ _ _ c.refused_at.ensures.end; size = c.refused_at.ensures.size ∙ size_none _ _ _ _ c.refused_at.ensures.end; small = omega (arith, c.refused_at.ensures.size) }
 
 pub returns-in-End : goal.returns-in-End
 unfolding fields_on short_on size_on entries_by
-returns-in-End c = let k = (record { loop = c.loop-at.invariant; judging = counted _ _ _ _ _ _ _ c.judge.ensures c.count_in-count.ensures }) in
+returns-in-End c = let k = (let it : Turn plain_form ((fault_by (decoded c.args.table.now) c.args.values.now c.args.rule)) c.args.notes.now (ending plain_form ((fault_by (decoded c.args.table.now) c.args.values.now c.args.rule)) (count_in c.args.notes.now) (length c.args.notes.now) 0 head_size (drop head_size c.args.notes.now)) (Weighing (decoded c.args.table.now) ((entries_by (decoded c.args.table.now) c.args.values.now c.args.rule c.args.notes.now)) c.loop-at.fields.bits c.loop-at.short.bits c.loop-at.size c.loop-at.last) c.loop-at.at c.loop-at.last c.judge.result = record { loop = c.loop-at.invariant; judging = counted _ _ _ _ _ _ _ c.judge.ensures c.count_in-count.ensures } in it) in
     let w = turn_done k c.in-End.is in
     let are = numbers_are _ _ _ (entries_good _ _ _) in
     record { end = turn_end k c.in-End.is; fields = weighed_fields are w; short = weighed_short are w; size = weighed_size are w; small = weighed_small w }
 
 pub overflow_add-size : goal.overflow_add-size
-overflow_add-size c = omega (arith, weighing_fits (decoded_bounded _) (turn_here ((record { loop = c.loop-at.invariant; judging = counted _ _ _ _ _ _ _ c.judge.ensures c.count_in-count.ensures })) c.in-Passed.is) (turn_good ((record { loop = c.loop-at.invariant; judging = counted _ _ _ _ _ _ _ c.judge.ensures c.count_in-count.ensures })) c.in-Passed.is) _ c.written_size-size.ensures)
+overflow_add-size c = omega (arith, weighing_fits (decoded_bounded _) (turn_here ((let it : Turn plain_form ((fault_by (decoded c.args.table.now) c.args.values.now c.args.rule)) c.args.notes.now (ending plain_form ((fault_by (decoded c.args.table.now) c.args.values.now c.args.rule)) (count_in c.args.notes.now) (length c.args.notes.now) 0 head_size (drop head_size c.args.notes.now)) (Weighing (decoded c.args.table.now) ((entries_by (decoded c.args.table.now) c.args.values.now c.args.rule c.args.notes.now)) c.loop-at.fields.bits c.loop-at.short.bits c.loop-at.size c.loop-at.last) c.loop-at.at c.loop-at.last c.judge.result = record { loop = c.loop-at.invariant; judging = counted _ _ _ _ _ _ _ c.judge.ensures c.count_in-count.ensures } in it)) c.in-Passed.is) (turn_good ((let it : Turn plain_form ((fault_by (decoded c.args.table.now) c.args.values.now c.args.rule)) c.args.notes.now (ending plain_form ((fault_by (decoded c.args.table.now) c.args.values.now c.args.rule)) (count_in c.args.notes.now) (length c.args.notes.now) 0 head_size (drop head_size c.args.notes.now)) (Weighing (decoded c.args.table.now) ((entries_by (decoded c.args.table.now) c.args.values.now c.args.rule c.args.notes.now)) c.loop-at.fields.bits c.loop-at.short.bits c.loop-at.size c.loop-at.last) c.loop-at.at c.loop-at.last c.judge.result = record { loop = c.loop-at.invariant; judging = counted _ _ _ _ _ _ _ c.judge.ensures c.count_in-count.ensures } in it)) c.in-Passed.is) _ c.written_size-size.ensures)
 
 pub overflow_add-at : goal.overflow_add-at
-overflow_add-at c = omega (arith, turn_room ((record { loop = c.loop-at.invariant; judging = counted _ _ _ _ _ _ _ c.judge.ensures c.count_in-count.ensures })) c.in-Passed.is)
+overflow_add-at c = omega (arith, turn_room ((let it : Turn plain_form ((fault_by (decoded c.args.table.now) c.args.values.now c.args.rule)) c.args.notes.now (ending plain_form ((fault_by (decoded c.args.table.now) c.args.values.now c.args.rule)) (count_in c.args.notes.now) (length c.args.notes.now) 0 head_size (drop head_size c.args.notes.now)) (Weighing (decoded c.args.table.now) ((entries_by (decoded c.args.table.now) c.args.values.now c.args.rule c.args.notes.now)) c.loop-at.fields.bits c.loop-at.short.bits c.loop-at.size c.loop-at.last) c.loop-at.at c.loop-at.last c.judge.result = record { loop = c.loop-at.invariant; judging = counted _ _ _ _ _ _ _ c.judge.ensures c.count_in-count.ensures } in it)) c.in-Passed.is)
 
 pub loop-at-smaller : goal.loop-at-smaller
-loop-at-smaller c = omega (arith, turn_room ((record { loop = c.loop-at.invariant; judging = counted _ _ _ _ _ _ _ c.judge.ensures c.count_in-count.ensures })) c.in-Passed.is)
+loop-at-smaller c = omega (arith, turn_room ((let it : Turn plain_form ((fault_by (decoded c.args.table.now) c.args.values.now c.args.rule)) c.args.notes.now (ending plain_form ((fault_by (decoded c.args.table.now) c.args.values.now c.args.rule)) (count_in c.args.notes.now) (length c.args.notes.now) 0 head_size (drop head_size c.args.notes.now)) (Weighing (decoded c.args.table.now) ((entries_by (decoded c.args.table.now) c.args.values.now c.args.rule c.args.notes.now)) c.loop-at.fields.bits c.loop-at.short.bits c.loop-at.size c.loop-at.last) c.loop-at.at c.loop-at.last c.judge.result = record { loop = c.loop-at.invariant; judging = counted _ _ _ _ _ _ _ c.judge.ensures c.count_in-count.ensures } in it)) c.in-Passed.is)
 
 pub loop-at-preserved : goal.loop-at-preserved
-loop-at-preserved c = let k = (record { loop = c.loop-at.invariant; judging = counted _ _ _ _ _ _ _ c.judge.ensures c.count_in-count.ensures }) in
+loop-at-preserved c = let k = (let it : Turn plain_form ((fault_by (decoded c.args.table.now) c.args.values.now c.args.rule)) c.args.notes.now (ending plain_form ((fault_by (decoded c.args.table.now) c.args.values.now c.args.rule)) (count_in c.args.notes.now) (length c.args.notes.now) 0 head_size (drop head_size c.args.notes.now)) (Weighing (decoded c.args.table.now) ((entries_by (decoded c.args.table.now) c.args.values.now c.args.rule c.args.notes.now)) c.loop-at.fields.bits c.loop-at.short.bits c.loop-at.size c.loop-at.last) c.loop-at.at c.loop-at.last c.judge.result = record { loop = c.loop-at.invariant; judging = counted _ _ _ _ _ _ _ c.judge.ensures c.count_in-count.ensures } in it) in
     turn_next k c.in-Passed.is
     (weighing_next (decoded_bounded _) (turn_here k c.in-Passed.is) (turn_good k c.in-Passed.is) _ c.written_size-size.ensures c.with-fields.ensures c.with_short-short.ensures)
 

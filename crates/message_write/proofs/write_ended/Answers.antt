@@ -15,13 +15,13 @@ use borrow.Author.Rules.{rules}
 use Rattle.message_write.proofs.write_ended.Goals as goal
 
 pub overflow_mul-length : goal.overflow_mul-length
-overflow_mul-length c = omega (arith, (omega (arith, c.count_in-count.ensures, (asked_head _ _ _ _ ((record { head = c.requires.notes_value; clean = c.requires.notes_value_2; named = c.requires.bits_value }))).three)))
+overflow_mul-length c = omega (arith, (let it : c.count_in-count.result ≤ 3 = omega (arith, c.count_in-count.ensures, (asked_head _ _ _ _ ((record { head = c.requires.notes_value; clean = c.requires.notes_value_2; named = c.requires.bits_value }))).three) in it))
 
 pub overflow_add-length : goal.overflow_add-length
-overflow_add-length c = omega (arith, (omega (arith, c.count_in-count.ensures, (asked_head _ _ _ _ ((record { head = c.requires.notes_value; clean = c.requires.notes_value_2; named = c.requires.bits_value }))).three)))
+overflow_add-length c = omega (arith, (let it : c.count_in-count.result ≤ 3 = omega (arith, c.count_in-count.ensures, (asked_head _ _ _ _ ((record { head = c.requires.notes_value; clean = c.requires.notes_value_2; named = c.requires.bits_value }))).three) in it))
 
 pub overflow_add-length-2 : goal.overflow_add-length-2
-overflow_add-length-2 c = omega (arith, (omega (arith, c.count_in-count.ensures, (asked_head _ _ _ _ ((record { head = c.requires.notes_value; clean = c.requires.notes_value_2; named = c.requires.bits_value }))).three)), c.requires.size_le_size_most)
+overflow_add-length-2 c = omega (arith, (let it : c.count_in-count.result ≤ 3 = omega (arith, c.count_in-count.ensures, (asked_head _ _ _ _ ((record { head = c.requires.notes_value; clean = c.requires.notes_value_2; named = c.requires.bits_value }))).three) in it), c.requires.size_le_size_most)
 
 pub returns-then-said-length : goal.returns-then-said-length
 returns-then-said-length c = record { answers = ended_differs _ _ _ _ _ ((asked_size _ _ _ _ ((record { head = c.requires.notes_value; clean = c.requires.notes_value_2; named = c.requires.bits_value })) (decoded_bounded _) c.args.size c.requires.size_value ∙ omega (arith, c.count_in-count.ensures))) c.if-said-length.true; writes = differs_left _ _ _ _ _ ((asked_size _ _ _ _ ((record { head = c.requires.notes_value; clean = c.requires.notes_value_2; named = c.requires.bits_value })) (decoded_bounded _) c.args.size c.requires.size_value ∙ omega (arith, c.count_in-count.ensures))) c.if-said-length.true }

@@ -24,19 +24,19 @@ pub put_mti-written-requires : goal.put_mti-written-requires
 put_mti-written-requires c = mti_fits ((record { short = c.requires.input_len_bound; read = c.requires.input_value; room = c.requires.text_room_in_bounds }))
 
 pub slice_bounds-put_named-count : goal.slice_bounds-put_named-count
-slice_bounds-put_named-count c = omega (arith, begun_size ((record { opened = (record { short = c.requires.input_len_bound; read = c.requires.input_value; room = c.requires.text_room_in_bounds }); count = c.put_mti-written.ensures.size; laid = c.put_mti-written.ensures.writes })), begun_room ((record { opened = (record { short = c.requires.input_len_bound; read = c.requires.input_value; room = c.requires.text_room_in_bounds }); count = c.put_mti-written.ensures.size; laid = c.put_mti-written.ensures.writes })), c.requires.text_room_in_bounds)
+slice_bounds-put_named-count c = omega (arith, begun_size ((let it : Begun c.args.input.now c.args.used c.args.bitmaps c.args.text.now c.put_mti-written.new.out c.put_mti-written.result = record { opened = (record { short = c.requires.input_len_bound; read = c.requires.input_value; room = c.requires.text_room_in_bounds }); count = c.put_mti-written.ensures.size; laid = c.put_mti-written.ensures.writes } in it)), begun_room ((let it : Begun c.args.input.now c.args.used c.args.bitmaps c.args.text.now c.put_mti-written.new.out c.put_mti-written.result = record { opened = (record { short = c.requires.input_len_bound; read = c.requires.input_value; room = c.requires.text_room_in_bounds }); count = c.put_mti-written.ensures.size; laid = c.put_mti-written.ensures.writes } in it)), c.requires.text_room_in_bounds)
 
 pub slice_bounds-put_named-start : goal.slice_bounds-put_named-start
-slice_bounds-put_named-start c = omega (arith, begun_size ((record { opened = (record { short = c.requires.input_len_bound; read = c.requires.input_value; room = c.requires.text_room_in_bounds }); count = c.put_mti-written.ensures.size; laid = c.put_mti-written.ensures.writes })), begun_room ((record { opened = (record { short = c.requires.input_len_bound; read = c.requires.input_value; room = c.requires.text_room_in_bounds }); count = c.put_mti-written.ensures.size; laid = c.put_mti-written.ensures.writes })), c.requires.text_room_in_bounds)
+slice_bounds-put_named-start c = omega (arith, begun_size ((let it : Begun c.args.input.now c.args.used c.args.bitmaps c.args.text.now c.put_mti-written.new.out c.put_mti-written.result = record { opened = (record { short = c.requires.input_len_bound; read = c.requires.input_value; room = c.requires.text_room_in_bounds }); count = c.put_mti-written.ensures.size; laid = c.put_mti-written.ensures.writes } in it)), begun_room ((let it : Begun c.args.input.now c.args.used c.args.bitmaps c.args.text.now c.put_mti-written.new.out c.put_mti-written.result = record { opened = (record { short = c.requires.input_len_bound; read = c.requires.input_value; room = c.requires.text_room_in_bounds }); count = c.put_mti-written.ensures.size; laid = c.put_mti-written.ensures.writes } in it)), c.requires.text_room_in_bounds)
 
 pub put_named-written-requires : goal.put_named-written-requires
-put_named-written-requires c = maps_fits ((record { opened = (record { short = c.requires.input_len_bound; read = c.requires.input_value; room = c.requires.text_room_in_bounds }); count = c.put_mti-written.ensures.size; laid = c.put_mti-written.ensures.writes }))
+put_named-written-requires c = maps_fits ((let it : Begun c.args.input.now c.args.used c.args.bitmaps c.args.text.now c.put_mti-written.new.out c.put_mti-written.result = record { opened = (record { short = c.requires.input_len_bound; read = c.requires.input_value; room = c.requires.text_room_in_bounds }); count = c.put_mti-written.ensures.size; laid = c.put_mti-written.ensures.writes } in it))
 
 pub overflow_add-written : goal.overflow_add-written
-overflow_add-written c = omega (arith, headed_room ((record { begun = (record { opened = (record { short = c.requires.input_len_bound; read = c.requires.input_value; room = c.requires.text_room_in_bounds }); count = c.put_mti-written.ensures.size; laid = c.put_mti-written.ensures.writes }); count = c.put_named-written.ensures.size; laid = c.put_named-written.ensures.writes })))
+overflow_add-written c = omega (arith, headed_room ((let it : Headed c.args.input.now c.args.used c.args.bitmaps c.args.text.now c.put_mti-written.new.out c.put_mti-written.result c.put_named-written.new.out c.put_named-written.result = record { begun = (let it : Begun c.args.input.now c.args.used c.args.bitmaps c.args.text.now c.put_mti-written.new.out c.put_mti-written.result = record { opened = (record { short = c.requires.input_len_bound; read = c.requires.input_value; room = c.requires.text_room_in_bounds }); count = c.put_mti-written.ensures.size; laid = c.put_mti-written.ensures.writes } in it); count = c.put_named-written.ensures.size; laid = c.put_named-written.ensures.writes } in it)))
 
 pub loop-at-init : goal.loop-at-init
-loop-at-init c = walked_first ((record { begun = (record { opened = (record { short = c.requires.input_len_bound; read = c.requires.input_value; room = c.requires.text_room_in_bounds }); count = c.put_mti-written.ensures.size; laid = c.put_mti-written.ensures.writes }); count = c.put_named-written.ensures.size; laid = c.put_named-written.ensures.writes })) c.args.notes.now c.requires.notes_value
+loop-at-init c = walked_first ((let it : Headed c.args.input.now c.args.used c.args.bitmaps c.args.text.now c.put_mti-written.new.out c.put_mti-written.result c.put_named-written.new.out c.put_named-written.result = record { begun = (let it : Begun c.args.input.now c.args.used c.args.bitmaps c.args.text.now c.put_mti-written.new.out c.put_mti-written.result = record { opened = (record { short = c.requires.input_len_bound; read = c.requires.input_value; room = c.requires.text_room_in_bounds }); count = c.put_mti-written.ensures.size; laid = c.put_mti-written.ensures.writes } in it); count = c.put_named-written.ensures.size; laid = c.put_named-written.ensures.writes } in it)) c.args.notes.now c.requires.notes_value
 
 pub slice_bounds-put_field-count : goal.slice_bounds-put_field-count
 slice_bounds-put_field-count c = omega (arith, c.loop-at.invariant.written.within)
@@ -45,19 +45,19 @@ pub slice_bounds-put_field-start : goal.slice_bounds-put_field-start
 slice_bounds-put_field-start c = omega (arith, c.loop-at.invariant.written.within)
 
 pub put_field-written-requires : goal.put_field-written-requires
-put_field-written-requires c = field_room c.loop-at.invariant ((note_part c.args.notes.now c.loop-at.at _ _ c.read_note.ensures c.in-Field.is))
+put_field-written-requires c = field_room c.loop-at.invariant ((let it : (note_at plain_form (drop c.loop-at.at c.args.notes.now)) ≡ Field c.in-Field.number c.in-Field.offset c.in-Field.length = note_part c.args.notes.now c.loop-at.at _ _ c.read_note.ensures c.in-Field.is in it))
 
 pub overflow_add-written-in-Field : goal.overflow_add-written-in-Field
-overflow_add-written-in-Field c = omega (arith, c.put_field-written.ensures.size, field_within c.loop-at.invariant ((note_part c.args.notes.now c.loop-at.at _ _ c.read_note.ensures c.in-Field.is)), lines_room ((record { short = c.requires.input_len_bound; read = c.requires.input_value; room = c.requires.text_room_in_bounds })))
+overflow_add-written-in-Field c = omega (arith, c.put_field-written.ensures.size, field_within c.loop-at.invariant ((let it : (note_at plain_form (drop c.loop-at.at c.args.notes.now)) ≡ Field c.in-Field.number c.in-Field.offset c.in-Field.length = note_part c.args.notes.now c.loop-at.at _ _ c.read_note.ensures c.in-Field.is in it)), lines_room ((record { short = c.requires.input_len_bound; read = c.requires.input_value; room = c.requires.text_room_in_bounds })))
 
 pub overflow_add-at : goal.overflow_add-at
-overflow_add-at c = omega (arith, field_inside c.loop-at.invariant ((note_part c.args.notes.now c.loop-at.at _ _ c.read_note.ensures c.in-Field.is)))
+overflow_add-at c = omega (arith, field_inside c.loop-at.invariant ((let it : (note_at plain_form (drop c.loop-at.at c.args.notes.now)) ≡ Field c.in-Field.number c.in-Field.offset c.in-Field.length = note_part c.args.notes.now c.loop-at.at _ _ c.read_note.ensures c.in-Field.is in it)))
 
 pub loop-at-smaller : goal.loop-at-smaller
 loop-at-smaller c = omega (arith, c.loop-at-test.true)
 
 pub loop-at-preserved : goal.loop-at-preserved
-loop-at-preserved c = walked_field c.loop-at.invariant ((note_part c.args.notes.now c.loop-at.at _ _ c.read_note.ensures c.in-Field.is)) c.put_field-written.ensures.size c.put_field-written.ensures.writes
+loop-at-preserved c = walked_field c.loop-at.invariant ((let it : (note_at plain_form (drop c.loop-at.at c.args.notes.now)) ≡ Field c.in-Field.number c.in-Field.offset c.in-Field.length = note_part c.args.notes.now c.loop-at.at _ _ c.read_note.ensures c.in-Field.is in it)) c.put_field-written.ensures.size c.put_field-written.ensures.writes
 
 pub slice_bounds-put_named-count-in-End : goal.slice_bounds-put_named-count-in-End
 slice_bounds-put_named-count-in-End c = omega (arith, c.loop-at.invariant.written.within)
@@ -66,28 +66,28 @@ pub slice_bounds-put_named-start-in-End : goal.slice_bounds-put_named-start-in-E
 slice_bounds-put_named-start-in-End c = omega (arith, c.loop-at.invariant.written.within)
 
 pub put_named-requires : goal.put_named-requires
-put_named-requires c = end_room c.loop-at.invariant ((note_part c.args.notes.now c.loop-at.at _ _ c.read_note.ensures c.in-End.is))
+put_named-requires c = end_room c.loop-at.invariant ((let it : (note_at plain_form (drop c.loop-at.at c.args.notes.now)) ≡ End c.in-End.field-0 = note_part c.args.notes.now c.loop-at.at _ _ c.read_note.ensures c.in-End.is in it))
 
 pub overflow_add-result : goal.overflow_add-result
-overflow_add-result c = omega (arith, (walked_end c.loop-at.invariant ((note_part c.args.notes.now c.loop-at.at _ _ c.read_note.ensures c.in-End.is)) c.put_named.ensures.size c.put_named.ensures.writes).0, lines_room ((record { short = c.requires.input_len_bound; read = c.requires.input_value; room = c.requires.text_room_in_bounds })))
+overflow_add-result c = omega (arith, (walked_end c.loop-at.invariant ((let it : (note_at plain_form (drop c.loop-at.at c.args.notes.now)) ≡ End c.in-End.field-0 = note_part c.args.notes.now c.loop-at.at _ _ c.read_note.ensures c.in-End.is in it)) c.put_named.ensures.size c.put_named.ensures.writes).0, lines_room ((record { short = c.requires.input_len_bound; read = c.requires.input_value; room = c.requires.text_room_in_bounds })))
 
 pub shape_of-text-in-End : goal.shape_of-text-in-End
-shape_of-text-in-End c = as_long _ _ _ (walked_end c.loop-at.invariant ((note_part c.args.notes.now c.loop-at.at _ _ c.read_note.ensures c.in-End.is)) c.put_named.ensures.size c.put_named.ensures.writes).1 c.loop-at.invariant.room ∙ headed_size ((record { begun = (record { opened = (record { short = c.requires.input_len_bound; read = c.requires.input_value; room = c.requires.text_room_in_bounds }); count = c.put_mti-written.ensures.size; laid = c.put_mti-written.ensures.writes }); count = c.put_named-written.ensures.size; laid = c.put_named-written.ensures.writes }))
+shape_of-text-in-End c = as_long _ _ _ (walked_end c.loop-at.invariant ((let it : (note_at plain_form (drop c.loop-at.at c.args.notes.now)) ≡ End c.in-End.field-0 = note_part c.args.notes.now c.loop-at.at _ _ c.read_note.ensures c.in-End.is in it)) c.put_named.ensures.size c.put_named.ensures.writes).1 c.loop-at.invariant.room ∙ headed_size ((let it : Headed c.args.input.now c.args.used c.args.bitmaps c.args.text.now c.put_mti-written.new.out c.put_mti-written.result c.put_named-written.new.out c.put_named-written.result = record { begun = (let it : Begun c.args.input.now c.args.used c.args.bitmaps c.args.text.now c.put_mti-written.new.out c.put_mti-written.result = record { opened = (record { short = c.requires.input_len_bound; read = c.requires.input_value; room = c.requires.text_room_in_bounds }); count = c.put_mti-written.ensures.size; laid = c.put_mti-written.ensures.writes } in it); count = c.put_named-written.ensures.size; laid = c.put_named-written.ensures.writes } in it))
 
 pub returns-in-End : goal.returns-in-End
-returns-in-End c = let e = walked_end c.loop-at.invariant ((note_part c.args.notes.now c.loop-at.at _ _ c.read_note.ensures c.in-End.is)) c.put_named.ensures.size c.put_named.ensures.writes in
-    record { size = e.0; writes = e.1 ∙ headed_over ((record { begun = (record { opened = (record { short = c.requires.input_len_bound; read = c.requires.input_value; room = c.requires.text_room_in_bounds }); count = c.put_mti-written.ensures.size; laid = c.put_mti-written.ensures.writes }); count = c.put_named-written.ensures.size; laid = c.put_named-written.ensures.writes })) }
+returns-in-End c = let e = walked_end c.loop-at.invariant ((let it : (note_at plain_form (drop c.loop-at.at c.args.notes.now)) ≡ End c.in-End.field-0 = note_part c.args.notes.now c.loop-at.at _ _ c.read_note.ensures c.in-End.is in it)) c.put_named.ensures.size c.put_named.ensures.writes in
+    record { size = e.0; writes = e.1 ∙ headed_over ((let it : Headed c.args.input.now c.args.used c.args.bitmaps c.args.text.now c.put_mti-written.new.out c.put_mti-written.result c.put_named-written.new.out c.put_named-written.result = record { begun = (let it : Begun c.args.input.now c.args.used c.args.bitmaps c.args.text.now c.put_mti-written.new.out c.put_mti-written.result = record { opened = (record { short = c.requires.input_len_bound; read = c.requires.input_value; room = c.requires.text_room_in_bounds }); count = c.put_mti-written.ensures.size; laid = c.put_mti-written.ensures.writes } in it); count = c.put_named-written.ensures.size; laid = c.put_named-written.ensures.writes } in it)) }
 
 pub shape_of-text-in-Malformed : goal.shape_of-text-in-Malformed
-shape_of-text-in-Malformed c = absurd ((never_malformed c.loop-at.invariant
-    (note_part c.args.notes.now c.loop-at.at _ _ c.read_note.ensures c.in-Malformed.is)))
+shape_of-text-in-Malformed c = absurd ((let it : ⊥ = never_malformed c.loop-at.invariant
+    (note_part c.args.notes.now c.loop-at.at _ _ c.read_note.ensures c.in-Malformed.is) in it))
 
 pub returns-in-Malformed : goal.returns-in-Malformed
-returns-in-Malformed c = absurd ((never_malformed c.loop-at.invariant
-    (note_part c.args.notes.now c.loop-at.at _ _ c.read_note.ensures c.in-Malformed.is)))
+returns-in-Malformed c = absurd ((let it : ⊥ = never_malformed c.loop-at.invariant
+    (note_part c.args.notes.now c.loop-at.at _ _ c.read_note.ensures c.in-Malformed.is) in it))
 
 pub shape_of-text : goal.shape_of-text
-shape_of-text c = absurd ((omega (arith, c.loop-at-test.false, walked_inside c.loop-at.invariant)))
+shape_of-text c = absurd ((let it : ⊥ = omega (arith, c.loop-at-test.false, walked_inside c.loop-at.invariant) in it))
 
 pub returns : goal.returns
-returns c = absurd ((omega (arith, c.loop-at-test.false, walked_inside c.loop-at.invariant)))
+returns c = absurd ((let it : ⊥ = omega (arith, c.loop-at-test.false, walked_inside c.loop-at.invariant) in it))
