@@ -56,4 +56,4 @@ returns c = let t = decoded c.args.table.now in
     placed_part (h ++ n) u c.args.notes.now _ _ _ e2 (omega (arith, length-append h n)) (omega (arith, end_long c.args.used, (let it : c.write_fields-written.result ≤ note_size plain_form * (64 * (dialect (decoded c.args.table.now)).most - 2) = let t = decoded c.args.table.now in
     omega (arith, c.write_fields-written.ensures.size, ap (λ (es : List Entry). length (field_notes plain_form es)) (entries_are t _ _ _ c.requires.fields_value), notes_few (dialect t) c.args.message.now c.args.bitmaps (omega arith) c.requires.bitmaps_bound) in it), c.requires.table_in_bounds)) c.put_end.ensures
     ∙ ap (λ (x : List ℕ). lay x c.args.notes.now) (append_assoc h n u)
-    ∙ ap (λ (es : List Entry). lay (h ++ (field_notes plain_form es ++ u)) c.args.notes.now) (entries_are t c c.args.fields.now c.args.bitmaps c.requires.fields_value)
+    ∙ ap (λ (es : List Entry). lay (h ++ (field_notes plain_form es ++ u)) c.args.notes.now) (entries_are t c.args.message.now c.args.fields.now c.args.bitmaps c.requires.fields_value)

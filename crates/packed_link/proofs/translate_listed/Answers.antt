@@ -34,8 +34,8 @@ returns-then-out-written c = let e = ends-short _ _ _ _ _ _ c.requires.input_val
     record { answers = e.answer; writes = e.output }
 
 pub write_message-requires : goal.write_message-requires
-write_message-requires c = let r = (c.requires.input_value, (c.requires.fields_value, (_, _, ((sym (c.judge_fields.ensures ∙ body_is _ (decoded c.args.table.now) _ _ _ c.requires.fields_value _ _ (ap (λ (y : ℕ). y + 8 * c.args.bitmaps) c.size_of.ensures)
-    (ap (λ (y : ℕ). y + 8 * c.args.bitmaps) (c.size_of-2.ensures ∙ ap (λ (x : Script). size_of x 4) c.other_script.ensures)))) ∙ c.in-Good.is, c.if-out-written.false)))) in record { input_value = r.0; fields_value = r.1.0; by_index = r.1.1 }
+write_message-requires c = record { input_value = c.requires.input_value; fields_value = c.requires.fields_value; by_index = (_, _, ((sym (c.judge_fields.ensures ∙ body_is _ (decoded c.args.table.now) _ _ _ c.requires.fields_value _ _ (ap (λ (y : ℕ). y + 8 * c.args.bitmaps) c.size_of.ensures)
+    (ap (λ (y : ℕ). y + 8 * c.args.bitmaps) (c.size_of-2.ensures ∙ ap (λ (x : Script). size_of x 4) c.other_script.ensures)))) ∙ c.in-Good.is, c.if-out-written.false)) }
 
 pub returns-in-Refused : goal.returns-in-Refused
 returns-in-Refused c = let e = ends-refused _ _ _ _ _ _ c.requires.input_value _ ((sym (c.judge_fields.ensures ∙ body_is _ (decoded c.args.table.now) _ _ _ c.requires.fields_value _ _ (ap (λ (y : ℕ). y + 8 * c.args.bitmaps) c.size_of.ensures)
