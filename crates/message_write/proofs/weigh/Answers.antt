@@ -20,4 +20,10 @@ pub weigh_fields-requires : goal.weigh_fields-requires
 weigh_fields-requires c = head_long 3 _ _ c.head_fault-fault.ensures c.if-fault-ne0.false
 
 pub returns : goal.returns
-returns c = let r = (weigh_ended ((decoded c.args.table.now)) ((fault_by ((decoded c.args.table.now)) c.args.values.now c.args.rule)) _ _ c.head_fault-fault.ensures _ c.if-fault-ne0.false c.weigh_fields.ensures.end, c.weigh_fields.ensures.1) in record { end = r.0; fields = r.1.0; short = r.1.1.0; size = r.1.1.1.0; small = r.1.1.1.1 }
+returns c = record {
+  end = weigh_ended (decoded c.args.table.now) (fault_by (decoded c.args.table.now) c.args.values.now c.args.rule) _ _ c.head_fault-fault.ensures _ c.if-fault-ne0.false c.weigh_fields.ensures.end;
+  fields = c.weigh_fields.ensures.fields;
+  short = c.weigh_fields.ensures.short;
+  size = c.weigh_fields.ensures.size;
+  small = c.weigh_fields.ensures.small;
+}
