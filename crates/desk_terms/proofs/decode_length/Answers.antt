@@ -1,6 +1,7 @@
 -- One arm for each encoding, and 25 where there is none (Encodings).
 use Rattle.encoding_length.specs.declared.Encoding.TheVariants.{Ascii, Bcd, Ebcdic}
 use Rattle.desk_terms.proofs.Encodings.{decoded_in, decoded_none}
+use native.Mathlib.Omega.{arith}
 use borrow.Author.Rules.{rules}
 use Rattle.desk_terms.proofs.decode_length.Goals as goal
 
@@ -14,4 +15,4 @@ pub returns-in-2 : goal.returns-in-2
 returns-in-2 c = decoded_in Ebcdic _ _ _ _ c.in-2.is c.decode-in-2.ensures.answers
 
 pub returns-in_default : goal.returns-in_default
-returns-in_default c = decoded_none _ _ _ c.in_default.rest.0.0.1 c.in_default.rest.0.1 c.in_default.rest.1
+returns-in_default c = decoded_none c.args.encoding _ _ (omega arith) (omega arith) (omega arith)

@@ -1,6 +1,7 @@
 -- One arm for each encoding, and 25 where there is none (Encodings).
 use Rattle.encoding_length.specs.declared.Encoding.TheVariants.{Ascii, Bcd, Ebcdic}
 use Rattle.desk_terms.proofs.Encodings.{encoded_in, encoded_none}
+use native.Mathlib.Omega.{arith}
 use borrow.Author.Rules.{rules}
 use Rattle.desk_terms.proofs.encode_length.Goals as goal
 
@@ -14,4 +15,4 @@ pub returns-in-2 : goal.returns-in-2
 returns-in-2 c = let r = encoded_in Ebcdic _ _ _ _ _ _ c.in-2.is (c.encode-in-2.ensures.answers, c.encode-in-2.ensures.writes) in record { answers = r.0; writes = r.1 }
 
 pub returns-in_default : goal.returns-in_default
-returns-in_default c = let r = encoded_none _ _ _ _ c.in_default.rest.0.0.1 c.in_default.rest.0.1 c.in_default.rest.1 in record { answers = r.0; writes = r.1 }
+returns-in_default c = let r = encoded_none c.args.encoding _ _ _ (omega arith) (omega arith) (omega arith) in record { answers = r.0; writes = r.1 }

@@ -15,4 +15,4 @@ put_tripled-requires c = let n : c.args.refusal.number < 256 = omega (arith, c.w
 
 pub returns : goal.returns
 unfolding refused_line
-returns c = let r = rw (← c.wide-number.ensures.value) (c.put_tripled.ensures.size, c.put_tripled.ensures.writes) in record { size = r.0; writes = r.1 }
+returns c = record { size = rw (← c.wide-number.ensures.value) c.put_tripled.ensures.size; writes = rw (← c.wide-number.ensures.value) c.put_tripled.ensures.writes }
