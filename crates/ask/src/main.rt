@@ -24,11 +24,15 @@ ghost use Rattle.std.specs.Prelude.{◌≡◌, ◌<◌, ◌≤◌, length};
 use bitmap::FieldSet;
 use encoding_length::{Encoding, Measured};
 use field_table::Class;
-use libc::{STDIN_FILENO, STDOUT_FILENO};
 use message_lookup::Found;
 use message_reader::ReadAnswer;
 use packed_link::Translated;
 use refusal::{Checked, Output, Refusal};
+
+// The descriptors of standard input and output.
+const STDIN: i32 = 0;
+
+const STDOUT: i32 = 1;
 
 // The most bytes of a line, its end included.
 const LINE_ROOM: usize = 8192;
@@ -136,7 +140,7 @@ fn read_line(line: &mut [u8]) -> usize
     let mut n: usize = 0;
     while n < line.len() {
         let mut next = [0u8; 1];
-        if io::read_full(STDIN_FILENO, &mut next) == 0 {
+        if io::read_full(STDIN, &mut next) == 0 {
             return n;
         }
         line[n] = next[0];
@@ -153,7 +157,7 @@ fn skip_line() {
     let mut left: usize = usize::MAX;
     while left > 0 {
         let mut next = [b'\n'; 1];
-        io::read_full(STDIN_FILENO, &mut next);
+        io::read_full(STDIN, &mut next);
         if next[0] == b'\n' {
             return;
         }
@@ -699,7 +703,7 @@ fn print_refusal(why: Refusal) {
 
 fn print_named(name: &[u8], n: usize) {
     print(name);
-    io::print_decimal(STDOUT_FILENO, n as u64);
+    io::print_decimal(STDOUT, n as u64);
 }
 
 // As a question spells them: a byte that stands over sixteen times in a row is printed once, with a star and how often.
@@ -763,9 +767,9 @@ fn print_hex(bytes: &[u8]) {
 }
 
 fn print_byte(b: u8) {
-    io::print_hex(STDOUT_FILENO, b as u64, 2);
+    io::print_hex(STDOUT, b as u64, 2);
 }
 
 fn print(text: &[u8]) {
-    io::write_all(STDOUT_FILENO, text);
+    io::write_all(STDOUT, text);
 }

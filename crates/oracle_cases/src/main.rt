@@ -5,10 +5,14 @@
 ghost use Rattle.std.specs.Prelude.{◌<◌};
 
 use encoding_length::{Encoding, Measured};
-use libc::{STDIN_FILENO, STDOUT_FILENO};
 use message_lookup::Found;
 use message_reader::ReadAnswer;
 use refusal::{Checked, Output};
+
+// The descriptors of standard input and output.
+const STDIN: i32 = 0;
+
+const STDOUT: i32 = 1;
 
 // The most bytes of an input, and of what is written.
 const ROOM: usize = 1200;
@@ -27,7 +31,7 @@ fn main() {
 // input. Answers whether there was one.
 fn run_case() -> bool {
     let mut front = [0u8; 9];
-    let n = io::read_full(STDIN_FILENO, &mut front);
+    let n = io::read_full(STDIN, &mut front);
     if n < 9 {
         return false;
     }
@@ -45,7 +49,7 @@ fn run_input(kind: u8, argument: usize, size: usize) -> bool
 {
     let mut text = [0u8; 2401];
     let line = &mut text[0..2 * size + 1];
-    let n = io::read_full(STDIN_FILENO, line);
+    let n = io::read_full(STDIN, line);
     let mut input = [0u8; ROOM];
     let bytes = &mut input[0..size];
     decode_hex(line, bytes);
@@ -269,13 +273,13 @@ fn print_hex(bytes: &[u8]) {
 }
 
 fn print_byte(b: u8) {
-    io::print_hex(STDOUT_FILENO, b as u64, 2);
+    io::print_hex(STDOUT, b as u64, 2);
 }
 
 fn print_number(n: u64) {
-    io::print_decimal(STDOUT_FILENO, n);
+    io::print_decimal(STDOUT, n);
 }
 
 fn print(text: &[u8]) {
-    io::write_all(STDOUT_FILENO, text);
+    io::write_all(STDOUT, text);
 }

@@ -2,8 +2,9 @@
 // reads standard input (at most 60,000 bytes)".
 #![tactic(auto)]
 
-use libc::STDIN_FILENO;
+// The descriptor of standard input.
+const STDIN: i32 = 0;
 
 fn main() {
-    till_report::print_report(STDIN_FILENO);
+    till_report::print_report(STDIN);
 }

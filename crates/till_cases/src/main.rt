@@ -1,33 +1,26 @@
 // Runs what the till program runs, on the stored inputs that its arguments name. Each prints its name and then the report's lines.
 #![tactic(auto)]
 
-use libc::STDOUT_FILENO;
+use std::fs::File;
+use std::os::fd::AsRawFd;
+use std::rt::Files;
+use std::{env, io};
 
-fn main() {
-    let count = os::arg_count();
-    let mut i: usize = 1;
-    while i < count {
-        run(i);
-        i += 1;
+fn main(rt: HostRuntime) -> io::Result<()> {
+    for name in env::args(&rt)?.skip(1) {
+        run(&rt, name.as_str())?;
     }
+    Ok(())
 }
 
-// Runs the input that argument i names.
-fn run(i: usize) {
-    let mut path = io::buffer();
-    let n = os::arg(i, &mut path);
-    let name = &path[..n];
-    let file = os::open_read(name);
-    if file < 0 {
-        os::fail(name);
-        return;
+// Runs the input of that name. One that cannot be opened is named on standard error.
+fn run(rt: &HostRuntime, name: &str) -> io::Result<()> {
+    match File::open(rt, name) {
+        Ok(file) => {
+            println!(rt; "{name}")?;
+            till_report::print_report(file.as_raw_fd());
+            Ok(())
+        }
+        Err(why) => eprintln!(rt; "{name}: {why}"),
     }
-    print(name);
-    print(b"\n");
-    till_report::print_report(file);
-    libc::close(file);
-}
-
-fn print(text: &[u8]) {
-    io::write_all(STDOUT_FILENO, text);
 }

@@ -1,6 +1,4 @@
 -- The first bit is worth 128.
-use Prim.Native.Nat.{◌-◌}
-use borrow.Author.Rules.{rules}
 use native.Mathlib.Omega.{arith}
 use Rattle.bitmap.proofs.chained.Goals as goal
 

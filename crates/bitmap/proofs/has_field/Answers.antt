@@ -1,5 +1,4 @@
 -- One law for each end, in Maps.
-use Prim.Native.Nat.{◌-◌}
 use Rattle.bitmap.proofs.Maps.{no_field, field_bit}
 use borrow.Author.Rules.{rules}
 use Rattle.bitmap.proofs.has_field.Goals as goal

@@ -1,5 +1,4 @@
 -- One law for each end, in Maps.
-use Prim.Native.Nat.{◌-◌}
 use Rattle.bitmap.proofs.Maps.{low_no_field, high_no_field, field_not_65}
 use borrow.Author.Rules.{rules}
 use Rattle.bitmap.proofs.is_field.Goals as goal

@@ -1,5 +1,4 @@
 -- One law for each end, in Bits.
-use Prim.Native.Nat.{◌-◌}
 use Rattle.bitmap.proofs.Bits.{bit_zero, bit_past, bit_is}
 use borrow.Author.Rules.{rules}
 use Rattle.bitmap.proofs.is_set.Goals as goal

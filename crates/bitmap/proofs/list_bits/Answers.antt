@@ -1,8 +1,7 @@
 -- The numbers written and those of the bits still to come make the whole (Listing); each turn takes the first bit from what is left.
-use Prim.Native.Nat.{◌-◌}
 use mathlib.Core.Path.{◌≡◌}
 use native.Mathlib.Omega.{arith}
-use Rattle.bitmap.proofs.Listed.{Listing, listing_none, listing_fits, listing_more, listing_end, Bit, first_bit}
+use Rattle.bitmap.proofs.Listed.{listing_none, listing_fits, listing_more, listing_end, first_bit}
 use borrow.Author.Rules.{rules}
 use Rattle.bitmap.proofs.list_bits.Goals as goal
 

@@ -1,8 +1,4 @@
-use Prim.Native.Nat.{◌-◌}
-use mathlib.Core.Path.{◌≡◌}
-use native.Mathlib.Omega.{arith}
-use Rattle.bitmap.proofs.Listed.{Listing, listing_none, listing_fits, listing_more, listing_end, Bit, first_bit}
-use borrow.Author.Rules.{rules}
+use Rattle.bitmap.proofs.Listed.{Listing}
 use Rattle.bitmap.proofs.list_bits.Given as goal
 
 abbrev pub invariant-loop-rest : goal.invariant-loop-rest

@@ -1,7 +1,6 @@
 -- The fields written and those from the byte that the loop has come to make the list (Listed).
-use Prim.Native.Nat.{◌-◌}
 use native.Mathlib.Omega.{arith}
-use Rattle.bitmap.proofs.Listed.{Filling, filling_none, filling_lent, filling_sum, filling_over, filling_more, filling_end}
+use Rattle.bitmap.proofs.Listed.{filling_none, filling_lent, filling_sum, filling_over, filling_more, filling_end}
 use borrow.Author.Rules.{rules}
 use Rattle.bitmap.proofs.list_fields.Goals as goal
 

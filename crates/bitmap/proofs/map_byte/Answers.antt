@@ -1,5 +1,4 @@
 -- One law for each end, in Maps.
-use Prim.Native.Nat.{◌-◌}
 use Rattle.bitmap.proofs.Maps.{byte_beyond, byte_first, byte_second, byte_other}
 use borrow.Author.Rules.{rules}
 use Rattle.bitmap.proofs.map_byte.Goals as goal

@@ -1,14 +1,10 @@
-use mathlib.Core.Path.{◌≡◌, refl}
+use mathlib.Core.Path.{◌≡◌}
 use mathlib.Core.Bool.{true}
 use Prim.Native.Nat.{◌≤◌, ◌-◌}
 use lib.ListN.{length}
 use Rattle.octets.specs.Lists.{between, all}
-use Rattle.octets.proofs.Lists.{laid, laid_none, laid_step, is_between}
+use Rattle.octets.proofs.Lists.{laid}
 use Rattle.bitmap.specs.Bitmaps.{maps_from, no_fields}
-use Rattle.bitmap.proofs.ByBits.{all_set, maps_done}
-use Rattle.bitmap.proofs.Maps.{maps_length, maps_at}
-use borrow.Author.Rules.{rules}
-use native.Mathlib.Omega.{arith}
 use Rattle.bitmap.proofs.map_bytes.Given as goal
 
 abbrev pub invariant-loop-i : goal.invariant-loop-i

@@ -1,5 +1,4 @@
 -- A bit that is not set is worth what still fits.
-use Prim.Native.Nat.{◌-◌}
 use Rattle.bitmap.proofs.Bits.{power_of, bit_room, bit_there, bit_added}
 use borrow.Author.Rules.{rules}
 use native.Mathlib.Omega.{arith}

@@ -1,5 +1,4 @@
 -- One law for each end, in Listed.
-use Prim.Native.Nat.{◌-◌}
 use Rattle.bitmap.proofs.Listed.{unchained_first, unchained_second, unchained_other}
 use borrow.Author.Rules.{rules}
 use Rattle.bitmap.proofs.unchain.Goals as goal

@@ -2,10 +2,7 @@ use mathlib.Core.Path.{◌≡◌}
 use Prim.Native.Nat.{◌≤◌, ◌-◌}
 use lib.ListN.{length, drop}
 use Rattle.octets.specs.Lists.{all}
-use Rattle.octets.proofs.Cases.{tested_true, tested_false}
-use Rattle.octets.proofs.Lists.{all_next, all_false, all_true}
 use Rattle.encoding_bcd.specs.Bcd.{is_bcd}
-use borrow.Author.Rules.{rules}
 use Rattle.encoding_bcd.proofs.all_bcd.Given as goal
 
 abbrev pub invariant-loop-i : goal.invariant-loop-i

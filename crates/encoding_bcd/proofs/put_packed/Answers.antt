@@ -1,9 +1,5 @@
 -- The first k bytes are laid over the output.
-use mathlib.Core.Path.{◌≡◌}
-use Prim.Native.Nat.{◌≤◌, ◌-◌}
-use lib.ListN.{length}
-use Rattle.octets.proofs.Lists.{laid, laid_none, laid_step, laid_all}
-use Rattle.encoding_bcd.specs.Bcd.{packed}
+use Rattle.octets.proofs.Lists.{laid_none, laid_step, laid_all}
 use Rattle.encoding_bcd.proofs.Packing.{evened_length, packed_length, packed_at}
 use borrow.Author.Rules.{rules}
 use native.Mathlib.Omega.{arith}
@@ -20,13 +16,13 @@ value_at-low-requires c = record { src_value = search rules; j_in_bounds = omega
 
 pub loop-k-preserved : goal.loop-k-preserved
 loop-k-preserved c = (
-      search rules,
-      (
-        laid_step _ _ _ _ _ c.loop-k.invariant.1.0 (omega (arith, packed_length c.args.src.now)) (search rules)
-            (packed_at _ _ _ _ (search rules) c.value_at-high.ensures.value c.value_at-low.ensures.value),
-        search rules,
-      ),
-    )
+  search rules,
+  (
+    laid_step _ _ _ _ _ c.loop-k.invariant.1.0 (omega (arith, packed_length c.args.src.now)) (search rules)
+        (packed_at _ _ _ _ (search rules) c.value_at-high.ensures.value c.value_at-low.ensures.value),
+    search rules,
+  ),
+)
 
 pub returns : goal.returns
 returns c = laid_all _ _ _ _ c.loop-k.invariant.1.0 (omega (arith, packed_length c.args.src.now)) (omega (arith, packed_length c.args.src.now))

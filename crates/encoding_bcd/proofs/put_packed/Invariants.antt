@@ -1,11 +1,8 @@
 use mathlib.Core.Path.{◌≡◌}
 use Prim.Native.Nat.{◌≤◌, ◌-◌}
 use lib.ListN.{length}
-use Rattle.octets.proofs.Lists.{laid, laid_none, laid_step, laid_all}
+use Rattle.octets.proofs.Lists.{laid}
 use Rattle.encoding_bcd.specs.Bcd.{packed}
-use Rattle.encoding_bcd.proofs.Packing.{evened_length, packed_length, packed_at}
-use borrow.Author.Rules.{rules}
-use native.Mathlib.Omega.{arith}
 use Rattle.encoding_bcd.proofs.put_packed.Given as goal
 
 abbrev pub invariant-loop-k : goal.invariant-loop-k

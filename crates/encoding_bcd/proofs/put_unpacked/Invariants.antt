@@ -1,11 +1,8 @@
-use mathlib.Core.Path.{◌≡◌, ◌∙◌}
+use mathlib.Core.Path.{◌≡◌}
 use Prim.Native.Nat.{◌≤◌, ◌-◌}
 use lib.ListN.{length}
-use Rattle.octets.proofs.Lists.{laid, laid_none, laid_step, laid_all}
+use Rattle.octets.proofs.Lists.{laid}
 use Rattle.encoding_bcd.specs.Bcd.{unpacked}
-use Rattle.encoding_bcd.proofs.Unpacking.{unpacked_length, unpacked_at}
-use borrow.Author.Rules.{rules}
-use native.Mathlib.Omega.{arith}
 use Rattle.encoding_bcd.proofs.put_unpacked.Given as goal
 
 abbrev pub invariant-loop-i : goal.invariant-loop-i

@@ -1,9 +1,7 @@
 -- So far the whole test is the test of what is left from i on.
 use mathlib.Core.Path.{◌≡◌}
 use mathlib.Core.Bool.{false}
-use Prim.Native.Nat.{◌≤◌, ◌-◌}
-use lib.ListN.{length, get_or, drop}
-use Rattle.octets.specs.Lists.{all}
+use lib.ListN.{get_or}
 use Rattle.octets.proofs.Lists.{all_next}
 use Rattle.encoding_ebcdic.specs.Ebcdic.{ascii_of, means_ascii}
 use Rattle.encoding_ebcdic.proofs.Permutation.{read_means}

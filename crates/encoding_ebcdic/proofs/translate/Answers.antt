@@ -1,9 +1,7 @@
 -- The first k bytes are laid over the output.
-use mathlib.Core.Path.{◌≡◌}
-use mathlib.Core.List.{map}
-use Prim.Native.Nat.{◌≤◌, ◌<◌, ◌-◌}
+use Prim.Native.Nat.{◌<◌}
 use lib.ListN.{length, get_or}
-use Rattle.octets.proofs.Lists.{laid, laid_none}
+use Rattle.octets.proofs.Lists.{laid_none}
 use Rattle.encoding_ebcdic.specs.Ebcdic.{entry_in}
 use Rattle.encoding_ebcdic.proofs.Permutation.{entry_inside}
 use Rattle.encoding_ebcdic.proofs.Mapping.{map_step, map_all}
@@ -22,12 +20,12 @@ bounds-entries-src c = omega (arith, c.shared_slice_known-1.given c.loop-k.k)
 
 pub loop-k-preserved : goal.loop-k-preserved
 loop-k-preserved c = let inside : get_or c.args.src.now c.loop-k.k 0 < length c.args.entries.now = omega (arith, c.requires.entries_len, c.shared_slice_known-1.given c.loop-k.k) in (
-      search rules,
-      (
-        map_step (entry_in c.args.entries.now) c.args.src.now _ _ _ c.loop-k.invariant.1.0 _ (search rules) (search rules) (entry_inside c.args.entries.now _ inside),
-        search rules,
-      ),
-    )
+  search rules,
+  (
+    map_step (entry_in c.args.entries.now) c.args.src.now _ _ _ c.loop-k.invariant.1.0 _ (search rules) (search rules) (entry_inside c.args.entries.now _ inside),
+    search rules,
+  ),
+)
 
 pub returns : goal.returns
 returns c = search (map_all, rules)

@@ -1,13 +1,9 @@
 use mathlib.Core.Path.{◌≡◌}
 use mathlib.Core.List.{map}
-use Prim.Native.Nat.{◌≤◌, ◌<◌, ◌-◌}
-use lib.ListN.{length, get_or}
-use Rattle.octets.proofs.Lists.{laid, laid_none}
+use Prim.Native.Nat.{◌≤◌, ◌-◌}
+use lib.ListN.{length}
+use Rattle.octets.proofs.Lists.{laid}
 use Rattle.encoding_ebcdic.specs.Ebcdic.{entry_in}
-use Rattle.encoding_ebcdic.proofs.Permutation.{entry_inside}
-use Rattle.encoding_ebcdic.proofs.Mapping.{map_step, map_all}
-use borrow.Author.Rules.{rules}
-use native.Mathlib.Omega.{arith}
 use Rattle.encoding_ebcdic.proofs.translate.Given as goal
 
 abbrev pub invariant-loop-k : goal.invariant-loop-k

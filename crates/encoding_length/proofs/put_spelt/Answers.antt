@@ -1,7 +1,6 @@
 -- One arm for each encoding, and digits are refused in none.
 use Rattle.encoding_length.specs.Lengths.{spelt}
 use Rattle.encoding_length.proofs.Texts.{same_conversion, ascii_clean, bcd_clean, ebcdic_clean}
-use borrow.Author.Rules.{rules}
 use Rattle.encoding_length.proofs.put_spelt.Goals as goal
 
 pub returns-in-Ascii : goal.returns-in-Ascii

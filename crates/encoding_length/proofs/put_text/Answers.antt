@@ -1,7 +1,6 @@
 -- One arm for each encoding.
 use Rattle.encoding_length.specs.Lengths.{text_of, alphabet_fault}
 use Rattle.encoding_length.proofs.Texts.{same_conversion}
-use borrow.Author.Rules.{rules}
 use Rattle.encoding_length.proofs.put_text.Goals as goal
 
 pub returns-in-Ascii : goal.returns-in-Ascii

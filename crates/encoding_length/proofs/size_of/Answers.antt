@@ -1,7 +1,6 @@
 -- One arm for each encoding.
 use mathlib.Core.Path.{◌∙◌}
 use Rattle.encoding_length.specs.Lengths.{size_of}
-use borrow.Author.Rules.{rules}
 use Rattle.encoding_length.proofs.size_of.Goals as goal
 
 pub returns-in-Ascii : goal.returns-in-Ascii

@@ -1,5 +1,4 @@
 -- Each arm passes on what it called.
-use Prim.Native.Nat.{◌-◌}
 use Rattle.field_class.proofs.Classes.{allows_in}
 use borrow.Author.Rules.{rules}
 use Rattle.field_class.proofs.is_allowed.Goals as goal

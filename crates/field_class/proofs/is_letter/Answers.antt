@@ -1,5 +1,4 @@
 -- One range, then the other.
-use Prim.Native.Nat.{◌-◌}
 use Rattle.octets.proofs.Cases.{either_left, either_right}
 use Rattle.field_class.specs.Classes.{is_letter}
 use borrow.Author.Rules.{rules}

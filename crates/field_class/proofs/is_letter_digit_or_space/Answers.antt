@@ -1,7 +1,5 @@
 -- A digit, then a letter or space.
-use Prim.Native.Nat.{◌-◌}
 use Rattle.octets.proofs.Cases.{either_left, either_right}
-use borrow.Author.Rules.{rules}
 use Rattle.field_class.proofs.is_letter_digit_or_space.Goals as goal
 
 pub returns-then-is_between : goal.returns-then-is_between

@@ -1,7 +1,5 @@
 -- A space, then a letter.
-use Prim.Native.Nat.{◌-◌}
 use borrow.Author.Tests.{eq-eqb, ne_eqb}
-use borrow.Author.Rules.{rules}
 use Rattle.field_class.proofs.is_letter_or_space.Goals as goal
 
 pub returns-then-b-eq32 : goal.returns-then-b-eq32

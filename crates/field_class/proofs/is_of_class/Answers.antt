@@ -1,5 +1,4 @@
 -- Each arm passes on what it called.
-use Prim.Native.Nat.{◌-◌}
 use Rattle.field_class.proofs.Classes.{conforms_in}
 use borrow.Author.Rules.{rules}
 use Rattle.field_class.proofs.is_of_class.Goals as goal

@@ -1,5 +1,4 @@
 -- Either byte.
-use Prim.Native.Nat.{◌-◌}
 use borrow.Author.Tests.{eq-eqb, ne_eqb}
 use Rattle.field_class.proofs.is_sign.Goals as goal
 

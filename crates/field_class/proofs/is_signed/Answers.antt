@@ -1,5 +1,4 @@
 -- One law for each end, in Signs.
-use Prim.Native.Nat.{◌-◌}
 use Rattle.field_class.proofs.Signs.{unsigned, no_sign, sign_digits}
 use borrow.Author.Rules.{rules}
 use Rattle.field_class.proofs.is_signed.Goals as goal

@@ -1,6 +1,4 @@
 -- No letter, then visible.
-use Prim.Native.Nat.{◌-◌}
-use borrow.Author.Rules.{rules}
 use Rattle.field_class.proofs.is_visible_no_letter.Goals as goal
 
 pub returns-then-is_letter : goal.returns-then-is_letter

@@ -1,5 +1,4 @@
 -- One arm for each number, and b for any other.
-use Prim.Native.Nat.{◌-◌}
 use native.Mathlib.Omega.{arith}
 use borrow.Author.Tests.{ne_eqb}
 use Rattle.field_table.proofs.class_by_code.Goals as goal

@@ -1,8 +1,7 @@
 -- The class of the number in the code.
-use Prim.Native.Nat.{ℕ, ◌-◌, ◌/◌}
+use Prim.Native.Nat.{ℕ, ◌/◌}
 use mathlib.Core.Path.{ap, ◌∙◌}
 use Rattle.field_table.specs.Codes.{class_by_code, decoded}
-use borrow.Author.Rules.{rules}
 use Rattle.field_table.proofs.class_in.Goals as goal
 
 pub returns : goal.returns

@@ -1,5 +1,4 @@
 -- The entry where there is one, and else 0.
-use Prim.Native.Nat.{◌-◌}
 use Rattle.field_table.proofs.Decoded.{code_here, code_none}
 use borrow.Author.Rules.{rules}
 use Rattle.field_table.proofs.code_in.Goals as goal

@@ -1,8 +1,7 @@
 -- The length in the code.
-use Prim.Native.Nat.{ℕ, ◌-◌, ◌%◌}
+use Prim.Native.Nat.{ℕ, ◌%◌}
 use mathlib.Core.Path.{ap}
 use Rattle.field_table.specs.Codes.{decoded}
-use borrow.Author.Rules.{rules}
 use Rattle.field_table.proofs.most_in.Goals as goal
 
 pub returns : goal.returns

@@ -1,8 +1,7 @@
 -- The digits in the code: a number below 4.
-use Prim.Native.Nat.{ℕ, ◌-◌, ◌/◌, ◌%◌}
+use Prim.Native.Nat.{ℕ, ◌/◌, ◌%◌}
 use mathlib.Core.Path.{ap}
 use Rattle.field_table.specs.Codes.{decoded}
-use borrow.Author.Rules.{rules}
 use native.Mathlib.Omega.{arith}
 use Rattle.field_table.proofs.width_in.Goals as goal
 

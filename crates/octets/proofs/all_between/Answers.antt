@@ -1,11 +1,10 @@
 -- All pass exactly when the front that passes is the whole.
 use mathlib.Core.Path.{ap, ◌∙◌}
-use Prim.Native.Nat.{ℕ, ◌-◌}
+use Prim.Native.Nat.{ℕ}
 use lib.ListN.{length}
 use lib.Dec.{eqb}
 use Rattle.octets.specs.Lists.{between}
 use Rattle.octets.proofs.Lists.{lead_all}
-use borrow.Author.Rules.{rules}
 use Rattle.octets.proofs.all_between.Goals as goal
 
 pub returns : goal.returns

@@ -1,8 +1,5 @@
 -- The whole spells what n and the bytes from i on spell; n is small enough for a byte more.
-use mathlib.Core.Path.{◌≡◌, ◌∙◌}
-use Prim.Native.Nat.{◌+◌, ◌^◌, ◌≤◌, ◌-◌}
-use lib.ListN.{length, drop}
-use Rattle.octets.specs.Numbers.{number}
+use mathlib.Core.Path.{◌∙◌}
 use Rattle.octets.proofs.Numbers.{number_over, number_within, number_more, byte_more, byte_most}
 use borrow.Author.Rules.{rules}
 use native.Mathlib.Omega.{arith}
@@ -19,12 +16,12 @@ overflow_add-n c = omega (arith, byte_most _ _ c.loop-i.invariant.1.0 (omega ari
 
 pub loop-i-preserved : goal.loop-i-preserved
 loop-i-preserved c = (
-      omega arith,
-      (
-        byte_more _ _ _ c.loop-i.invariant.1.0 c.wide.ensures.small,
-        c.loop-i.invariant.1.1 ∙ number_more _ _ _ _ _ _ c.loop-i-test.true (omega (arith, c.wide.ensures.value)),
-      ),
-    )
+  omega arith,
+  (
+    byte_more _ _ _ c.loop-i.invariant.1.0 c.wide.ensures.small,
+    c.loop-i.invariant.1.1 ∙ number_more _ _ _ _ _ _ c.loop-i-test.true (omega (arith, c.wide.ensures.value)),
+  ),
+)
 
 pub returns : goal.returns
 returns c = search (number_within, rules)

@@ -1,10 +1,7 @@
-use mathlib.Core.Path.{◌≡◌, ◌∙◌}
+use mathlib.Core.Path.{◌≡◌}
 use Prim.Native.Nat.{◌+◌, ◌^◌, ◌≤◌, ◌-◌}
 use lib.ListN.{length, drop}
 use Rattle.octets.specs.Numbers.{number}
-use Rattle.octets.proofs.Numbers.{number_over, number_within, number_more, byte_more, byte_most}
-use borrow.Author.Rules.{rules}
-use native.Mathlib.Omega.{arith}
 use Rattle.octets.proofs.big_endian_of.Given as goal
 
 abbrev pub invariant-loop-i : goal.invariant-loop-i

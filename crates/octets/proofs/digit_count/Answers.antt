@@ -1,7 +1,4 @@
 -- The digits counted but the first, and those of what is left, are all; each turn takes at least one off what is left.
-use mathlib.Core.Path.{◌≡◌}
-use Prim.Native.Nat.{◌+◌, ◌≤◌, ◌-◌}
-use Rattle.octets.specs.Numerals.{digit_count}
 use Rattle.octets.proofs.Numerals.{count_one, count_more}
 use native.Mathlib.Omega.{arith}
 use Rattle.octets.proofs.digit_count.Goals as goal

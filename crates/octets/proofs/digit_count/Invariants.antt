@@ -1,8 +1,6 @@
 use mathlib.Core.Path.{◌≡◌}
-use Prim.Native.Nat.{◌+◌, ◌≤◌, ◌-◌}
+use Prim.Native.Nat.{◌+◌, ◌≤◌}
 use Rattle.octets.specs.Numerals.{digit_count}
-use Rattle.octets.proofs.Numerals.{count_one, count_more}
-use native.Mathlib.Omega.{arith}
 use Rattle.octets.proofs.digit_count.Given as goal
 
 abbrev pub invariant-loop-left : goal.invariant-loop-left

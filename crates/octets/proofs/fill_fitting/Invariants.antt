@@ -1,8 +1,7 @@
-use mathlib.Core.Path.{◌≡◌, sym}
+use mathlib.Core.Path.{◌≡◌}
 use Prim.Native.Nat.{◌≤◌, ◌-◌}
-use lib.ListN.{length, replicate, length-replicate, get_or-replicate}
-use Rattle.octets.proofs.Lists.{laid, laid_none, laid_step, laid_all}
-use borrow.Author.Rules.{rules}
+use lib.ListN.{length, replicate}
+use Rattle.octets.proofs.Lists.{laid}
 use Rattle.octets.proofs.fill_fitting.Given as goal
 
 abbrev pub invariant-loop-i : goal.invariant-loop-i

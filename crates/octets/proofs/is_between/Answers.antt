@@ -1,6 +1,5 @@
 -- Below low, or at least low and then the test against high.
 use mathlib.Core.Path.{sym}
-use Prim.Native.Nat.{◌-◌}
 use Rattle.octets.proofs.Lists.{below_low, up_to_high}
 use Rattle.octets.proofs.is_between.Goals as goal
 

@@ -2,8 +2,6 @@ use mathlib.Core.Path.{◌≡◌}
 use Prim.Native.Nat.{◌+◌, ◌≤◌, ◌-◌}
 use lib.ListN.{length, drop}
 use Rattle.octets.specs.Lists.{between, lead}
-use Rattle.octets.proofs.Lists.{is_between, below_low, above_high, lead_next, lead_stops, lead_ends}
-use borrow.Author.Rules.{rules}
 use Rattle.octets.proofs.lead_between.Given as goal
 
 abbrev pub invariant-loop-i : goal.invariant-loop-i

@@ -1,6 +1,5 @@
 -- The bytes fit and are laid over the output, or they do not and it is left.
 use mathlib.Core.Path.{refl}
-use Prim.Native.Nat.{◌-◌}
 use Rattle.octets.proofs.Lists.{placed_short, placed_done}
 use borrow.Author.Rules.{rules}
 use Rattle.octets.proofs.put.Goals as goal

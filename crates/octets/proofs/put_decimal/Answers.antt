@@ -1,5 +1,4 @@
 -- The bytes fit and are laid over the output, or they do not and it is left.
-use Prim.Native.Nat.{◌-◌}
 use Rattle.octets.proofs.Lists.{placed_short, placed_done}
 use Rattle.octets.proofs.Numbers.{digits_length}
 use borrow.Author.Rules.{rules}

@@ -1,12 +1,8 @@
 -- Of the digits, the k highest are still to be written, and left is the number that they spell.
 use mathlib.Core.Path.{◌≡◌, sym, ◌∙◌}
-use Prim.Native.Nat.{◌≤◌, ◌-◌}
-use lib.ListN.{length, length-set}
-use Rattle.octets.specs.Lists.{lay}
-use Rattle.octets.specs.Numbers.{digits}
+use lib.ListN.{length-set}
 use Rattle.octets.proofs.Numbers.{digit_step, digit_none}
 use native.Mathlib.Nat.{mod-lt}
-use borrow.Author.Rules.{rules}
 use native.Mathlib.Omega.{arith}
 use Rattle.octets.proofs.put_digits.Goals as goal
 
@@ -18,9 +14,9 @@ overflow_add-out c = omega (arith, mod-lt c.loop-k.left {m = c.args.base} (omega
 
 pub loop-k-preserved : goal.loop-k-preserved
 loop-k-preserved c = (
-      omega arith,
-      (simp length-set c.loop-k.invariant.1.0, c.loop-k.invariant.1.1 ∙ digit_step _ _ _ _ _ c.loop-k-test.true (omega arith)),
-    )
+  omega arith,
+  (simp length-set c.loop-k.invariant.1.0, c.loop-k.invariant.1.1 ∙ digit_step _ _ _ _ _ c.loop-k-test.true (omega arith)),
+)
 
 pub returns : goal.returns
 returns c = let z : c.loop-k.k ≡ 0 = omega arith in

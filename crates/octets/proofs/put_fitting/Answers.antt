@@ -1,8 +1,6 @@
 -- The first i bytes of src are laid over the output.
-use mathlib.Core.Path.{◌≡◌, refl}
-use Prim.Native.Nat.{◌≤◌, ◌-◌}
-use lib.ListN.{length}
-use Rattle.octets.proofs.Lists.{laid, laid_none, laid_step, laid_all}
+use mathlib.Core.Path.{refl}
+use Rattle.octets.proofs.Lists.{laid_none, laid_step, laid_all}
 use borrow.Author.Rules.{rules}
 use Rattle.octets.proofs.put_fitting.Goals as goal
 

@@ -1,8 +1,7 @@
-use mathlib.Core.Path.{◌≡◌, refl}
+use mathlib.Core.Path.{◌≡◌}
 use Prim.Native.Nat.{◌≤◌, ◌-◌}
 use lib.ListN.{length}
-use Rattle.octets.proofs.Lists.{laid, laid_none, laid_step, laid_all}
-use borrow.Author.Rules.{rules}
+use Rattle.octets.proofs.Lists.{laid}
 use Rattle.octets.proofs.put_fitting.Given as goal
 
 abbrev pub invariant-loop-i : goal.invariant-loop-i

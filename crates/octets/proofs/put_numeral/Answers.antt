@@ -1,9 +1,7 @@
 -- The digits are written in as many bytes as there are digits.
 use mathlib.Core.Path.{sym, ◌∙◌}
-use Prim.Native.Nat.{◌-◌}
 use Rattle.octets.specs.Numerals.{numeral}
 use Rattle.octets.proofs.Numerals.{numeral_length}
-use borrow.Author.Rules.{rules}
 use Rattle.octets.proofs.put_numeral.Goals as goal
 
 pub returns : goal.returns

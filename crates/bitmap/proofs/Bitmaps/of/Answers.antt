@@ -1,9 +1,8 @@
 -- A count over 3 is taken for 3; the bytes that are made have the bits that they should.
 use mathlib.Core.Path.{◌≡◌, sym, ap, ◌∙◌}
-use Prim.Native.Nat.{◌-◌, min}
+use Prim.Native.Nat.{min}
 use Rattle.octets.specs.Lists.{between, all}
 use Rattle.bitmap.proofs.ByBits.{maps_made}
-use borrow.Author.Rules.{rules}
 use native.Mathlib.Omega.{arith}
 use Rattle.bitmap.proofs.Bitmaps.of.Goals as goal
 

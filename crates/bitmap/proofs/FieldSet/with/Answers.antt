@@ -1,5 +1,4 @@
 -- A number that is no field leaves the set; any other has its bit set.
-use Prim.Native.Nat.{◌-◌}
 use mathlib.Core.Path.{sym, ◌∙◌}
 use Rattle.bitmap.proofs.Maps.{field_low, field_high, field_left, field_put}
 use borrow.Author.Rules.{rules}
