@@ -1,3 +1,7 @@
+-- `count_words` is safe and ends. The loop's invariant: `i` is at most the length, and there is at most one word more than bytes
+-- passed; the bytes left fall.
+--
+-- Assumes nothing.
 use mathlib.Core.Logic.{⊎_elim}
 use Prim.Native.Nat.{◌+◌, ◌-◌, ◌≤◌}
 use native.Mathlib.Omega.{arith}

@@ -1,5 +1,4 @@
 -- One law for each end, in Items.
-use Prim.Native.Nat.{◌-◌}
 use Rattle.field_read.proofs.Items.{length_fixed, length_spelt}
 use borrow.Author.Rules.{rules}
 use Rattle.field_read.proofs.content_length.Goals as goal

@@ -1,5 +1,4 @@
 -- Binary, and else ASCII.
-use Prim.Native.Nat.{◌-◌}
 use Rattle.octets.proofs.Cases.{either_left, either_right}
 use borrow.Author.Rules.{rules}
 use Rattle.field_read.proofs.is_allowed.Goals as goal

@@ -1,5 +1,4 @@
 -- What the table says is passed on.
-use Prim.Native.Nat.{◌-◌}
 use Rattle.field_read.proofs.Items.{place_by_lem}
 use borrow.Author.Rules.{rules}
 use Rattle.field_read.proofs.place_field.Goals as goal

@@ -1,5 +1,4 @@
 -- What the table says is passed on.
-use Prim.Native.Nat.{◌-◌}
 use Rattle.field_read.proofs.Items.{field_by}
 use borrow.Author.Rules.{rules}
 use Rattle.field_read.proofs.read_field.Goals as goal

@@ -1,6 +1,5 @@
 -- One law for each end, in Items.
 use mathlib.Core.Path.{sym}
-use Prim.Native.Nat.{◌-◌}
 use lib.ListN.{length-take}
 use lib.Seq.{length-take-le}
 use Rattle.field_read.proofs.Items.{item_cut, item_no_digit, item_long, item_past, item_high, item_read}

@@ -4,7 +4,6 @@ use lib.ListN.{length}
 use Rattle.octets.specs.Numbers.{decimal}
 use Rattle.octets.proofs.Numbers.{digits_length}
 use Rattle.field_write.proofs.Writing.{first_short, second_short, both_placed}
-use borrow.Author.Rules.{rules}
 use Rattle.field_write.proofs.put_counted.Goals as goal
 
 pub returns-then-out-width : goal.returns-then-out-width

@@ -2,7 +2,6 @@
 use mathlib.Core.Path.{refl}
 use lib.ListN.{replicate, length-replicate}
 use Rattle.field_write.proofs.Writing.{first_short, second_short, both_placed}
-use borrow.Author.Rules.{rules}
 use Rattle.field_write.proofs.put_padding_first.Goals as goal
 
 pub returns-then-out-pad : goal.returns-then-out-pad

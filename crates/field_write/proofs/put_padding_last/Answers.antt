@@ -2,7 +2,6 @@
 use mathlib.Core.Path.{refl}
 use lib.ListN.{replicate, length-replicate}
 use Rattle.field_write.proofs.Writing.{first_short, second_short, both_placed}
-use borrow.Author.Rules.{rules}
 use Rattle.field_write.proofs.put_padding_last.Goals as goal
 
 pub returns-then-out-length : goal.returns-then-out-length
