@@ -9,7 +9,7 @@ use Rattle.field_write.specs.Fields.{exact_fault, clean_fault, cleaned, field_by
 use Rattle.field_write.proofs.Allowed.{exact_not_short}
 use Rattle.field_write.proofs.Cleaned.{not_short_whole, exact_unpadded, cleaned_exact, cleaned_bytes}
 use Rattle.message_language.specs.Language.{Entry, entry}
-use Rattle.message_contents.specs.Contents.{Content, content, content_of, contents_in, numbers_of, numbers_in, spelt, cleaned_in}
+use Rattle.message_contents.specs.Contents.{Content, content_of, contents_in, numbers_of, numbers_in, spelt, cleaned_in}
 
 pub contents_numbers : (v : List ℕ) (es : List Entry) → numbers_in (contents_in v es) ≡ numbers_of es
 unfolding numbers_in contents_in numbers_of

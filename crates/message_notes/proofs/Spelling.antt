@@ -1,5 +1,5 @@
 -- Notes spell the entries that they were written from. Assumes nothing.
-use Prim.Native.Nat.{ℕ, zero, suc, ◌+◌, ◌-◌, ◌*◌, ◌^◌, ◌<◌}
+use Prim.Native.Nat.{ℕ, zero, suc, ◌+◌, ◌*◌, ◌^◌, ◌<◌}
 use mathlib.Core.Bool.{true}
 use borrow.Author.Tests.{eq-eqb}
 use native.Mathlib.Nat.{mul-suc}

@@ -2,7 +2,6 @@
 use Rattle.message_notes.proofs.Head.{mti_none, mti_some, front_place, mti_place_lem}
 use mathlib.Core.Path.{refl}
 use native.Mathlib.Omega.{arith}
-use borrow.Author.Rules.{rules}
 use Rattle.message_notes.proofs.mti_in.Goals as goal
 
 pub returns-then-notes-lt-HEAD_SIZE : goal.returns-then-notes-lt-HEAD_SIZE

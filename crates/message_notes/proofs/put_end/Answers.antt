@@ -1,14 +1,12 @@
 -- The kind is stored, and the number laid behind it.
 use mathlib.Core.Path.{refl, ◌∙◌}
 use mathlib.Core.List.{[], ◌∷◌}
-use Prim.Native.Nat.{◌-◌}
 use lib.ListN.{set, length-set}
 use Rattle.octets.specs.Numbers.{big_endian}
 use Rattle.octets.proofs.Lists.{placed_short, placed_done}
 use Rattle.octets.proofs.Parts.{lay_one, placed_part}
 use Rattle.message_notes.specs.Notes.{end_note}
 use Rattle.message_notes.proofs.Sizes.{bytes_long, end_long}
-use borrow.Author.Rules.{rules}
 use native.Mathlib.Omega.{arith}
 use Rattle.message_notes.proofs.put_end.Goals as goal
 

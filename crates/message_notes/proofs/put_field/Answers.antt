@@ -1,8 +1,8 @@
 -- The kind is stored, and each number laid behind what is there.
 use mathlib.Core.Path.{refl, sym, ap, ◌∙◌}
 use mathlib.Core.List.{List, [], ◌∷◌, ◌++◌, append_assoc, append-nil}
-use Prim.Native.Nat.{ℕ, ◌+◌, ◌-◌}
-use lib.ListN.{length, set, length-set, length-append}
+use Prim.Native.Nat.{ℕ}
+use lib.ListN.{set, length-set, length-append}
 use Rattle.octets.specs.Lists.{lay}
 use Rattle.octets.specs.Numbers.{digits, big_endian}
 use Rattle.octets.proofs.Lists.{placed_short, placed_done}
@@ -11,7 +11,6 @@ use Rattle.message_language.specs.Language.{entry}
 use Rattle.message_notes.specs.Dialect.{plain_form}
 use Rattle.message_notes.specs.Notes.{field_note}
 use Rattle.message_notes.proofs.Sizes.{bytes_long, field_long}
-use borrow.Author.Rules.{rules}
 use native.Mathlib.Omega.{arith}
 use Rattle.message_notes.proofs.put_field.Goals as goal
 

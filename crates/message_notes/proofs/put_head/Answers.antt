@@ -1,14 +1,13 @@
 -- The kind is stored, then the MTI and the count are laid behind it.
 use mathlib.Core.Path.{refl, ◌∙◌}
 use mathlib.Core.List.{[], ◌∷◌}
-use Prim.Native.Nat.{◌+◌, ◌-◌}
+use Prim.Native.Nat.{◌+◌}
 use lib.ListN.{length, set, length-set}
 use Rattle.octets.specs.Numbers.{big_endian}
 use Rattle.octets.proofs.Lists.{placed_short, placed_done}
 use Rattle.octets.proofs.Parts.{lay_one, placed_part}
 use Rattle.message_notes.specs.Notes.{head_note}
 use Rattle.message_notes.proofs.Sizes.{bytes_long, head_long}
-use borrow.Author.Rules.{rules}
 use native.Mathlib.Omega.{arith}
 use Rattle.message_notes.proofs.put_head.Goals as goal
 

@@ -1,5 +1,4 @@
 -- The number is read from its four bytes.
-use Prim.Native.Nat.{◌-◌}
 use Rattle.octets.proofs.Numbers.{part_big_endian}
 use Rattle.message_notes.proofs.Reading.{end_cut, end_whole}
 use borrow.Author.Rules.{rules}

@@ -1,5 +1,4 @@
 -- Each number is read from its own bytes.
-use Prim.Native.Nat.{◌-◌}
 use Rattle.octets.proofs.Numbers.{part_big_endian}
 use Rattle.message_notes.proofs.Reading.{field_cut, field_whole}
 use borrow.Author.Rules.{rules}

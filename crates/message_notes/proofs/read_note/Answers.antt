@@ -1,5 +1,4 @@
 -- One law for each end, in Reading.
-use Prim.Native.Nat.{◌-◌}
 use Rattle.message_notes.proofs.Reading.{note_missing, note_field, note_end, note_other}
 use borrow.Author.Rules.{rules}
 use Rattle.message_notes.proofs.read_note.Goals as goal

@@ -1,6 +1,5 @@
 -- One law for each end, in Answers; the numbers that are lent stand for the house table.
 use mathlib.Core.Path.{sym, ap, ◌∙◌}
-use Prim.Native.Nat.{◌-◌}
 use Rattle.message_reader.specs.Reader.{told_read}
 use Rattle.message_reader.proofs.Answers.{ends-short, ends-head, answer-by, notes-by, tells-by}
 use borrow.Author.Rules.{rules}

@@ -1,11 +1,9 @@
 -- The fields of the bitmaps are listed, and read.
-use Prim.Native.Nat.{◌-◌}
 use mathlib.Core.Path.{refl, sym}
 use native.Mathlib.Omega.{arith}
 use lib.Seq.{length-take-le}
 use Rattle.message_reader.proofs.Answers.{head_few, head_room}
 use Rattle.message_reader.proofs.Noting.{list_is, list_few}
-use borrow.Author.Rules.{rules}
 use Rattle.message_reader.proofs.read_by.Goals as goal
 
 pub overflow_mul-start : goal.overflow_mul-start

@@ -1,10 +1,6 @@
 -- Reading from the start is reading what is left from the place and the field that the loop has come to (Turns).
-use Prim.Native.Nat.{◌-◌}
-use lib.ListN.{length}
-use Rattle.field_table.specs.Codes.{decoded}
 use Rattle.message_reader.specs.Reader.{read_fields}
-use Rattle.message_reader.proofs.Turns.{Met, met, Scanned, scan_first, scan_refused, scan_within, scan_read, scan_end}
-use borrow.Author.Rules.{rules}
+use Rattle.message_reader.proofs.Turns.{met, scan_first, scan_refused, scan_within, scan_read, scan_end}
 use native.Mathlib.Omega.{arith}
 use Rattle.message_reader.proofs.read_fields.Goals as goal
 

@@ -1,10 +1,7 @@
 use Prim.Native.Nat.{◌-◌}
 use lib.ListN.{length}
 use Rattle.field_table.specs.Codes.{decoded}
-use Rattle.message_reader.specs.Reader.{read_fields}
-use Rattle.message_reader.proofs.Turns.{Met, met, Scanned, scan_first, scan_refused, scan_within, scan_read, scan_end}
-use borrow.Author.Rules.{rules}
-use native.Mathlib.Omega.{arith}
+use Rattle.message_reader.proofs.Turns.{Scanned}
 use Rattle.message_reader.proofs.read_fields.Given as goal
 
 abbrev pub invariant-loop-i : goal.invariant-loop-i

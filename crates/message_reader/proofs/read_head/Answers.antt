@@ -1,6 +1,5 @@
 -- One law for each end, in Heads.
 use mathlib.Core.Path.{sym}
-use Prim.Native.Nat.{◌-◌}
 use lib.Seq.{length-take-le}
 use Rattle.message_reader.proofs.Heads.{head_short, head_no_digit, head_maps}
 use borrow.Author.Rules.{rules}

@@ -1,12 +1,9 @@
 -- One law for each end, in Answers, over the table that is lent.
-use mathlib.Core.Path.{◌≡◌, sym, ◌∙◌}
-use Prim.Native.Nat.{◌-◌}
+use mathlib.Core.Path.{sym, ◌∙◌}
 use Rattle.message_reader.proofs.Answers.{head_few, head_room, ends-refused, ends_read}
 use Rattle.message_reader.proofs.Noting.{body_is}
 use Rattle.field_table.specs.Codes.{decoded}
-use Rattle.message_reader.specs.Reader.{read_body}
 use native.Mathlib.Omega.{arith}
-use borrow.Author.Rules.{rules}
 use Rattle.message_reader.proofs.read_listed.Goals as goal
 
 pub overflow_mul-bitmaps : goal.overflow_mul-bitmaps

@@ -1,11 +1,5 @@
 -- The notes written and those of what is left from the place and the field that the loop has come to make the whole (Noting).
-use Prim.Native.Nat.{◌-◌}
-use lib.ListN.{length}
-use Rattle.field_table.specs.Codes.{decoded}
-use Rattle.message_notes.specs.Dialect.{plain_form}
-use Rattle.message_reader.proofs.Turns.{Met}
-use Rattle.message_reader.proofs.Noting.{Noted, noted_first, noted_met, noted_refused, noted_room, noted_within, noted_read, noted_end}
-use borrow.Author.Rules.{rules}
+use Rattle.message_reader.proofs.Noting.{noted_first, noted_met, noted_refused, noted_room, noted_within, noted_read, noted_end}
 use native.Mathlib.Omega.{arith}
 use Rattle.message_reader.proofs.write_fields.Goals as goal
 

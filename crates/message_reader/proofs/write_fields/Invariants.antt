@@ -2,10 +2,7 @@ use Prim.Native.Nat.{◌-◌}
 use lib.ListN.{length}
 use Rattle.field_table.specs.Codes.{decoded}
 use Rattle.message_notes.specs.Dialect.{plain_form}
-use Rattle.message_reader.proofs.Turns.{Met}
-use Rattle.message_reader.proofs.Noting.{Noted, noted_first, noted_met, noted_refused, noted_room, noted_within, noted_read, noted_end}
-use borrow.Author.Rules.{rules}
-use native.Mathlib.Omega.{arith}
+use Rattle.message_reader.proofs.Noting.{Noted}
 use Rattle.message_reader.proofs.write_fields.Given as goal
 
 abbrev pub invariant-loop-i : goal.invariant-loop-i

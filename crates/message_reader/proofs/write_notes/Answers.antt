@@ -15,7 +15,6 @@ use Rattle.message_notes.specs.Notes.{head_note, end_note, field_notes, notes_of
 use Rattle.message_notes.proofs.Sizes.{head_long, end_long}
 use Rattle.message_reader.specs.Reader.{entries_of, reading_with}
 use Rattle.message_reader.proofs.Noting.{notes_few, body_is, entries_are, listed_few}
-use borrow.Author.Rules.{rules}
 use native.Mathlib.Omega.{arith}
 use Rattle.message_reader.proofs.write_notes.Goals as goal
 
@@ -33,16 +32,31 @@ write_fields-written-requires c = let t = decoded c.args.table.now in
     record { start_in_bounds = c.requires.bitmaps_in_bounds; fields_in_bounds = omega (arith, listed_few (dialect t) _ _ (omega arith) c.requires.bitmaps_bound _ c.requires.fields_value, c.write_fields-arg-1.given, c.notes-1.given, c.requires.table_in_bounds); by_index = (_, body_is t _ _ _ c.requires.fields_value ∙ c.requires.bitmaps_value) }
 
 pub overflow_add-end : goal.overflow_add-end
-overflow_add-end c = omega (arith, (let it : c.write_fields-written.result ≤ note_size plain_form * (64 * (dialect (decoded c.args.table.now)).most - 2) = let t = decoded c.args.table.now in
-    omega (arith, c.write_fields-written.ensures.size, ap (λ (es : List Entry). length (field_notes plain_form es)) (entries_are t _ _ _ c.requires.fields_value), notes_few (dialect t) c.args.message.now c.args.bitmaps (omega arith) c.requires.bitmaps_bound) in it))
+overflow_add-end c = omega (
+  arith,
+  (let it : c.write_fields-written.result ≤ note_size plain_form * (64 * (dialect (decoded c.args.table.now)).most - 2) = let t = decoded c.args.table.now in
+      omega (arith, c.write_fields-written.ensures.size, ap (λ (es : List Entry). length (field_notes plain_form es)) (entries_are t _ _ _ c.requires.fields_value), notes_few (dialect t) c.args.message.now c.args.bitmaps (omega arith) c.requires.bitmaps_bound) in it),
+)
 
 pub slice_bounds-put_end-count : goal.slice_bounds-put_end-count
-slice_bounds-put_end-count c = omega (arith, (let it : c.write_fields-written.result ≤ note_size plain_form * (64 * (dialect (decoded c.args.table.now)).most - 2) = let t = decoded c.args.table.now in
-    omega (arith, c.write_fields-written.ensures.size, ap (λ (es : List Entry). length (field_notes plain_form es)) (entries_are t _ _ _ c.requires.fields_value), notes_few (dialect t) c.args.message.now c.args.bitmaps (omega arith) c.requires.bitmaps_bound) in it), c.notes-2-1.given, c.notes-1.given, c.requires.table_in_bounds)
+slice_bounds-put_end-count c = omega (
+  arith,
+  (let it : c.write_fields-written.result ≤ note_size plain_form * (64 * (dialect (decoded c.args.table.now)).most - 2) = let t = decoded c.args.table.now in
+      omega (arith, c.write_fields-written.ensures.size, ap (λ (es : List Entry). length (field_notes plain_form es)) (entries_are t _ _ _ c.requires.fields_value), notes_few (dialect t) c.args.message.now c.args.bitmaps (omega arith) c.requires.bitmaps_bound) in it),
+  c.notes-2-1.given,
+  c.notes-1.given,
+  c.requires.table_in_bounds,
+)
 
 pub slice_bounds-put_end-start : goal.slice_bounds-put_end-start
-slice_bounds-put_end-start c = omega (arith, (let it : c.write_fields-written.result ≤ note_size plain_form * (64 * (dialect (decoded c.args.table.now)).most - 2) = let t = decoded c.args.table.now in
-    omega (arith, c.write_fields-written.ensures.size, ap (λ (es : List Entry). length (field_notes plain_form es)) (entries_are t _ _ _ c.requires.fields_value), notes_few (dialect t) c.args.message.now c.args.bitmaps (omega arith) c.requires.bitmaps_bound) in it), c.notes-2-1.given, c.notes-1.given, c.requires.table_in_bounds)
+slice_bounds-put_end-start c = omega (
+  arith,
+  (let it : c.write_fields-written.result ≤ note_size plain_form * (64 * (dialect (decoded c.args.table.now)).most - 2) = let t = decoded c.args.table.now in
+      omega (arith, c.write_fields-written.ensures.size, ap (λ (es : List Entry). length (field_notes plain_form es)) (entries_are t _ _ _ c.requires.fields_value), notes_few (dialect t) c.args.message.now c.args.bitmaps (omega arith) c.requires.bitmaps_bound) in it),
+  c.notes-2-1.given,
+  c.notes-1.given,
+  c.requires.table_in_bounds,
+)
 
 pub returns : goal.returns
 unfolding notes_of reading_with
@@ -53,7 +67,12 @@ returns c = let t = decoded c.args.table.now in
     let l : length h ≡ head_size = head_long (take 4 c.args.message.now) c.args.bitmaps ∙ omega (arith, length-take-le 4 c.args.message.now (omega (arith, c.requires.bitmaps_in_bounds))) in
     let e1 = c.put_head.ensures ∙ placed_fits h c.args.notes.now head_size l (omega (arith, c.requires.table_in_bounds)) in
     let e2 = lay_part h n c.args.notes.now _ _ head_size e1 l c.write_fields-written.ensures.writes in
-    placed_part (h ++ n) u c.args.notes.now _ _ _ e2 (omega (arith, length-append h n)) (omega (arith, end_long c.args.used, (let it : c.write_fields-written.result ≤ note_size plain_form * (64 * (dialect (decoded c.args.table.now)).most - 2) = let t = decoded c.args.table.now in
-    omega (arith, c.write_fields-written.ensures.size, ap (λ (es : List Entry). length (field_notes plain_form es)) (entries_are t _ _ _ c.requires.fields_value), notes_few (dialect t) c.args.message.now c.args.bitmaps (omega arith) c.requires.bitmaps_bound) in it), c.requires.table_in_bounds)) c.put_end.ensures
+    placed_part (h ++ n) u c.args.notes.now _ _ _ e2 (omega (arith, length-append h n)) (omega (
+      arith,
+      end_long c.args.used,
+      (let it : c.write_fields-written.result ≤ note_size plain_form * (64 * (dialect (decoded c.args.table.now)).most - 2) = let t = decoded c.args.table.now in
+          omega (arith, c.write_fields-written.ensures.size, ap (λ (es : List Entry). length (field_notes plain_form es)) (entries_are t _ _ _ c.requires.fields_value), notes_few (dialect t) c.args.message.now c.args.bitmaps (omega arith) c.requires.bitmaps_bound) in it),
+      c.requires.table_in_bounds,
+    )) c.put_end.ensures
     ∙ ap (λ (x : List ℕ). lay x c.args.notes.now) (append_assoc h n u)
     ∙ ap (λ (es : List Entry). lay (h ++ (field_notes plain_form es ++ u)) c.args.notes.now) (entries_are t c.args.message.now c.args.fields.now c.args.bitmaps c.requires.fields_value)

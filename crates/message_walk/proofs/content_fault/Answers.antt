@@ -1,5 +1,4 @@
 -- Each arm passes on what it called.
-use Prim.Native.Nat.{◌-◌}
 use Rattle.message_walk.specs.Faults.{asked}
 use Rattle.message_walk.proofs.Ends.{rule_is}
 use borrow.Author.Rules.{rules}

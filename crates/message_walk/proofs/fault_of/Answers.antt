@@ -1,5 +1,4 @@
 -- The place first, and then the content.
-use Prim.Native.Nat.{◌-◌}
 use Rattle.message_walk.proofs.Ends.{inside_of, fault_outside, fault_inside}
 use native.Mathlib.Omega.{arith}
 use borrow.Author.Rules.{rules}

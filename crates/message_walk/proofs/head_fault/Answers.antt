@@ -1,5 +1,5 @@
 -- One law for each end, in Ends.
-use Prim.Native.Nat.{◌-◌, ◌<◌}
+use Prim.Native.Nat.{◌<◌}
 use native.Mathlib.Omega.{arith}
 use Rattle.message_walk.proofs.Ends.{head_not, head_none, head_many, head_mti, head_good}
 use borrow.Author.Rules.{rules}

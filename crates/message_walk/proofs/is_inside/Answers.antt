@@ -1,5 +1,4 @@
 -- One law for each end, in Ends.
-use Prim.Native.Nat.{◌-◌}
 use Rattle.message_walk.proofs.Ends.{too_long, long_enough}
 use borrow.Author.Rules.{rules}
 use Rattle.message_walk.proofs.is_inside.Goals as goal

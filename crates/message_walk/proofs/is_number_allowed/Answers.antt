@@ -1,5 +1,4 @@
 -- One law for each end, in Ends.
-use Prim.Native.Nat.{◌-◌}
 use Rattle.message_walk.proofs.Ends.{not_above, no_number, in_bitmaps}
 use borrow.Author.Rules.{rules}
 use Rattle.message_walk.proofs.is_number_allowed.Goals as goal

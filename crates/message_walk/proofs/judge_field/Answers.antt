@@ -1,7 +1,5 @@
 -- One law for each end, in Ends.
-use Prim.Native.Nat.{◌-◌}
 use Rattle.message_walk.proofs.Ends.{field_number, field_fault_lem, field_passes}
-use borrow.Author.Rules.{rules}
 use Rattle.message_walk.proofs.judge_field.Goals as goal
 
 pub returns-then-not-is_number_allowed : goal.returns-then-not-is_number_allowed

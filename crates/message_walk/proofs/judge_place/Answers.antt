@@ -1,9 +1,7 @@
 -- One law for each kind of note, in Steps; a note of 01's form has no mark.
 use mathlib.Core.Path.{sym, ◌∙◌}
-use Prim.Native.Nat.{◌-◌}
 use Rattle.message_walk.proofs.Steps.{judged_malformed, judged_end}
 use Rattle.message_walk.proofs.Ends.{judged_plain, place_is}
-use borrow.Author.Rules.{rules}
 use Rattle.message_walk.proofs.judge_place.Goals as goal
 
 pub returns-in-Malformed : goal.returns-in-Malformed

@@ -1,5 +1,4 @@
 -- By the test.
-use Prim.Native.Nat.{◌-◌}
 use Rattle.message_walk.proofs.Ends.{placed_inside, placed_outside}
 use borrow.Author.Rules.{rules}
 use Rattle.message_walk.proofs.place_fault.Goals as goal

@@ -1,13 +1,10 @@
 -- The head, and then the fields.
 use mathlib.Core.Path.{◌∙◌}
-use Prim.Native.Nat.{◌-◌}
 use Rattle.field_table.specs.House.{house}
 use Rattle.message_notes.specs.Dialect.{dialect}
-use Rattle.message_walk.specs.Walk.{Fault}
 use Rattle.message_walk.specs.Faults.{any, within}
 use Rattle.message_walk.proofs.Heads.{head_long}
 use Rattle.message_walk.proofs.Ends.{walk_head, walk_ended, none_named, all_named}
-use borrow.Author.Rules.{rules}
 use Rattle.message_walk.proofs.walk.Goals as goal
 
 pub returns-then-fault-ne0 : goal.returns-then-fault-ne0
