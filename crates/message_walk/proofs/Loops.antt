@@ -38,6 +38,13 @@ pub record Turn (F : Form) (p : Fault) (n : List ℕ) (w : Walked) (P : List Ent
   pub loop : Walking F p n w P at last
   pub judging : o ≡ judged F p (count_in n) last (take (length n - at) (drop at n))
 
+pub turn_of :
+    {F : Form} {p : Fault} {n : List ℕ} {w : Walked} {P : List Entry → Type 0} {at last : ℕ} {o : Judged} →
+    Walking F p n w P at last →
+    o ≡ judged F p (count_in n) last (take (length n - at) (drop at n)) →
+    Turn F p n w P at last o
+turn_of loop judging = record { loop = loop; judging = judging }
+
 module _ {F : Form} {p : Fault} {n : List ℕ} {w : Walked} {P : List Entry → Type 0} {at last : ℕ} {o : Judged} (c : Turn F p n w P at last o) where
   abbrev k : ℕ
   k = c.loop.fuel - 1
@@ -107,6 +114,13 @@ reading_first {F} {n} h x = record { fuel = length n; inside = h; left = omega a
 pub record Read (F : Form) (n : List ℕ) (P : List Entry → Type 0) (at : ℕ) (o : Note) : Type 0 where
   pub loop : Reading F n P at
   pub note : o ≡ note_at F (take (length n - at) (drop at n))
+
+pub read_of :
+    {F : Form} {n : List ℕ} {P : List Entry → Type 0} {at : ℕ} {o : Note} →
+    Reading F n P at →
+    o ≡ note_at F (take (length n - at) (drop at n)) →
+    Read F n P at o
+read_of loop note = record { loop = loop; note = note }
 
 module _ {F : Form} {n : List ℕ} {P : List Entry → Type 0} {at : ℕ} {o : Note} (c : Read F n P at o) where
   abbrev j : ℕ

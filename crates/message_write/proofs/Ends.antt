@@ -122,6 +122,14 @@ pub record Asked (t : Table) (v n s : List ℕ) : Type 0 where
   pub clean : listed_in plain_form n ≡ entries_by t v Clean n
   pub named : s ≡ set_of (numbers_of (listed_in plain_form n))
 
+pub asked_of :
+    {t : Table} {v n s : List ℕ} →
+    head_number 3 n ≡ 0 →
+    listed_in plain_form n ≡ entries_by t v Clean n →
+    s ≡ set_of (numbers_of (listed_in plain_form n)) →
+    Asked t v n s
+asked_of head clean named = record { head = head; clean = clean; named = named }
+
 module _ (t : Table) (v n s : List ℕ) (asked : Asked t v n s) where
   abbrev m : ℕ
   m = count_in n

@@ -43,6 +43,14 @@ pub record Opened (s : List ℕ) (u m : ℕ) (d : List ℕ) : Type 0 where
   pub read : read_message house (dialect house).most s ≡ Accepted u m
   pub room : text_room ≤ length d
 
+pub opened_of :
+    {s : List ℕ} {u m : ℕ} {d : List ℕ} →
+    length s ≤ input_most →
+    read_message house (dialect house).most s ≡ Accepted u m →
+    text_room ≤ length d →
+    Opened s u m d
+opened_of short read room = record { short = short; read = read; room = room }
+
 module _ {s : List ℕ} {u m : ℕ} {d : List ℕ} (c : Opened s u m d) where
   abbrev reading : Reading
   reading = reading_with house s m
@@ -95,6 +103,14 @@ pub record Begun (s : List ℕ) (u m : ℕ) (d o : List ℕ) (n : ℕ) : Type 0 
   pub count : n ≡ length (mti_line (take 4 s))
   pub laid : o ≡ lay (mti_line (take 4 s)) d
 
+pub begun_of :
+    {s : List ℕ} {u m : ℕ} {d o : List ℕ} {n : ℕ} →
+    Opened s u m d →
+    n ≡ length (mti_line (take 4 s)) →
+    o ≡ lay (mti_line (take 4 s)) d →
+    Begun s u m d o n
+begun_of opened count laid = record { opened = opened; count = count; laid = laid }
+
 module _ {s : List ℕ} {u m : ℕ} {d o : List ℕ} {n : ℕ} (c : Begun s u m d o n) where
   pub begun_room : n + length (maps c.opened) ≤ text_room
   begun_room = omega (arith, lines_room c.opened, lines_long c.opened, c.count)
@@ -110,6 +126,14 @@ pub record Headed (s : List ℕ) (u m : ℕ) (d o : List ℕ) (n : ℕ) (f : Lis
   pub begun : Begun s u m d o n
   pub count : k ≡ length (named (text "bitmaps") m newline)
   pub laid : f ≡ lay (named (text "bitmaps") m newline) (mid_of n (length o - n) o)
+
+pub headed_of :
+    {s : List ℕ} {u m : ℕ} {d o : List ℕ} {n : ℕ} {f : List ℕ} {k : ℕ} →
+    Begun s u m d o n →
+    k ≡ length (named (text "bitmaps") m newline) →
+    f ≡ lay (named (text "bitmaps") m newline) (mid_of n (length o - n) o) →
+    Headed s u m d o n f k
+headed_of begun count laid = record { begun = begun; count = count; laid = laid }
 
 module _ {s : List ℕ} {u m : ℕ} {d o : List ℕ} {n : ℕ} {f : List ℕ} {k : ℕ} (c : Headed s u m d o n f k) where
   abbrev given : Opened s u m d

@@ -29,6 +29,9 @@ pub record Worded (w : List ℕ) (n e : ℕ) (d x : List ℕ) : Type 0 where
   pub room : length (named w n e) ≤ length d
   pub word : x ≡ placed w d
 
+pub worded_of : {w : List ℕ} {n e : ℕ} {d x : List ℕ} → length (named w n e) ≤ length d → x ≡ placed w d → Worded w n e d x
+worded_of room word = record { room = room; word = word }
+
 module _ {w : List ℕ} {n e : ℕ} {d x : List ℕ} (c : Worded w n e d x) where
   abbrev spaced : List ℕ
   spaced = w ++ (space ∷ [])
@@ -56,6 +59,14 @@ pub record Numbered (w : List ℕ) (n e : ℕ) (d x f : List ℕ) (k : ℕ) : Ty
   pub worded : Worded w n e d x
   pub count : k ≡ length (numeral n)
   pub number : f ≡ placed (numeral n) (mid_of (length w + 1) (length (set x (length w) space) - (length w + 1)) (set x (length w) space))
+
+pub numbered_of :
+    {w : List ℕ} {n e : ℕ} {d x f : List ℕ} {k : ℕ} →
+    Worded w n e d x →
+    k ≡ length (numeral n) →
+    f ≡ placed (numeral n) (mid_of (length w + 1) (length (set x (length w) space) - (length w + 1)) (set x (length w) space)) →
+    Numbered w n e d x f k
+numbered_of worded count number = record { worded = worded; count = count; number = number }
 
 module _ {w : List ℕ} {n e : ℕ} {d x f : List ℕ} {k : ℕ} (c : Numbered w n e d x f k) where
   abbrev numbered : List ℕ
@@ -131,6 +142,14 @@ pub record Once (a : List ℕ) (x : ℕ) (b : List ℕ) (y : ℕ) (c : List ℕ)
   pub count : n ≡ length (named a x space)
   pub laid : o ≡ lay (named a x space) d
 
+pub once_of :
+    {a : List ℕ} {x : ℕ} {b : List ℕ} {y : ℕ} {c : List ℕ} {z : ℕ} {d o : List ℕ} {n : ℕ} →
+    length (tripled a x b y c z) ≤ length d →
+    n ≡ length (named a x space) →
+    o ≡ lay (named a x space) d →
+    Once a x b y c z d o n
+once_of room count laid = record { room = room; count = count; laid = laid }
+
 module _ {a : List ℕ} {x : ℕ} {b : List ℕ} {y : ℕ} {c : List ℕ} {z : ℕ} {d o : List ℕ} {n : ℕ} (h : Once a x b y c z d o n) where
   pub once_room : n + (length (named b y space) + length (named c z newline)) ≤ length d
   once_room = omega (arith, tripled_long a x b y c z, h.room, h.count)
@@ -146,6 +165,14 @@ pub record Twice (a : List ℕ) (x : ℕ) (b : List ℕ) (y : ℕ) (c : List ℕ
   pub once : Once a x b y c z d o n
   pub count : k ≡ length (named b y space)
   pub laid : f ≡ lay (named b y space) (mid_of n (length o - n) o)
+
+pub twice_of :
+    {a : List ℕ} {x : ℕ} {b : List ℕ} {y : ℕ} {c : List ℕ} {z : ℕ} {d o : List ℕ} {n : ℕ} {f : List ℕ} {k : ℕ} →
+    Once a x b y c z d o n →
+    k ≡ length (named b y space) →
+    f ≡ lay (named b y space) (mid_of n (length o - n) o) →
+    Twice a x b y c z d o n f k
+twice_of once count laid = record { once = once; count = count; laid = laid }
 
 module _ {a : List ℕ} {x : ℕ} {b : List ℕ} {y : ℕ} {c : List ℕ} {z : ℕ} {d o : List ℕ} {n : ℕ} {f : List ℕ} {k : ℕ} (h : Twice a x b y c z d o n f k) where
   abbrev two : List ℕ

@@ -1,5 +1,4 @@
 -- The field asked for, at the end note.
-use Prim.Native.Nat.{◌-◌}
 use Rattle.message_lookup.proofs.Finding.{absent_is}
 use Rattle.message_lookup.proofs.absent.Goals as goal
 

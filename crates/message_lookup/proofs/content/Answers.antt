@@ -1,9 +1,7 @@
 -- The part at the place that lookup answers, or the empty part at the front.
 use mathlib.Core.Path.{refl, sym, ◌∙◌}
 use mathlib.Core.List.{[]}
-use Prim.Native.Nat.{◌-◌}
 use Rattle.message_lookup.proofs.Finding.{looked_inside, part_none, place_none, part_at, place_at}
-use borrow.Author.Rules.{rules}
 use native.Mathlib.Omega.{arith}
 use Rattle.message_lookup.proofs.content.Goals as goal
 

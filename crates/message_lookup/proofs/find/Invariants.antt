@@ -1,11 +1,9 @@
 use Prim.Native.Nat.{◌+◌, ◌-◌}
 use lib.ListN.{length}
-use native.Mathlib.Omega.{arith}
 use Rattle.message_notes.specs.Dialect.{plain_form}
 use Rattle.message_walk.specs.Walk.{listed_in}
-use Rattle.message_walk.proofs.Loops.{Reading, reading_first, Read, read_malformed, read_end, read_room, read_here, read_next}
-use Rattle.message_lookup.proofs.Finding.{Finding, finding_first, finding_none, finding_here, finding_next}
-use borrow.Author.Rules.{rules}
+use Rattle.message_walk.proofs.Loops.{Reading}
+use Rattle.message_lookup.proofs.Finding.{Finding}
 use Rattle.message_lookup.proofs.find.Given as goal
 
 abbrev pub invariant-loop-at : goal.invariant-loop-at

@@ -1,9 +1,7 @@
 -- The whole walk is judged, and then the field is found.
 use mathlib.Core.Path.{ap}
-use Prim.Native.Nat.{◌-◌}
 use Rattle.message_lookup.specs.Lookup.{told_found}
 use Rattle.message_lookup.proofs.Finding.{looked_refused, looked_head, looked_found}
-use borrow.Author.Rules.{rules}
 use Rattle.message_lookup.proofs.look_up.Goals as goal
 
 pub find-requires : goal.find-requires

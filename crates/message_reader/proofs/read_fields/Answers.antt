@@ -8,19 +8,19 @@ pub loop-i-init : goal.loop-i-init
 loop-i-init c = scan_first c.requires
 
 pub returns-in-Refused : goal.returns-in-Refused
-returns-in-Refused c = scan_refused c.loop-i.invariant ((met _ _ _ _ _ _ _ c.loop-i-test.true c.wide-field.ensures.value c.read_field.ensures)) c.in-Refused.is
+returns-in-Refused c = scan_refused c.loop-i.invariant (met _ _ _ _ _ _ _ c.loop-i-test.true c.wide-field.ensures.value c.read_field.ensures) c.in-Refused.is
 
 pub overflow_add-at : goal.overflow_add-at
-overflow_add-at c = omega (arith, scan_within c.loop-i.invariant ((met _ _ _ _ _ _ _ c.loop-i-test.true c.wide-field.ensures.value c.read_field.ensures)) c.in-Content.is)
+overflow_add-at c = omega (arith, scan_within c.loop-i.invariant (met _ _ _ _ _ _ _ c.loop-i-test.true c.wide-field.ensures.value c.read_field.ensures) c.in-Content.is)
 
 pub overflow_add-at-in-Content : goal.overflow_add-at-in-Content
-overflow_add-at-in-Content c = omega (arith, scan_within c.loop-i.invariant ((met _ _ _ _ _ _ _ c.loop-i-test.true c.wide-field.ensures.value c.read_field.ensures)) c.in-Content.is)
+overflow_add-at-in-Content c = omega (arith, scan_within c.loop-i.invariant (met _ _ _ _ _ _ _ c.loop-i-test.true c.wide-field.ensures.value c.read_field.ensures) c.in-Content.is)
 
 pub loop-i-smaller : goal.loop-i-smaller
 loop-i-smaller c = omega (arith, c.loop-i-test.true)
 
 pub loop-i-preserved : goal.loop-i-preserved
-loop-i-preserved c = scan_read c.loop-i.invariant ((met _ _ _ _ _ _ _ c.loop-i-test.true c.wide-field.ensures.value c.read_field.ensures)) c.in-Content.is
+loop-i-preserved c = scan_read c.loop-i.invariant (met _ _ _ _ _ _ _ c.loop-i-test.true c.wide-field.ensures.value c.read_field.ensures) c.in-Content.is
 
 pub returns : goal.returns
 unfolding read_fields

@@ -16,7 +16,13 @@ pub read_fields-requires : goal.read_fields-requires
 read_fields-requires c = head_room _ _ _ c.requires.message_value (omega arith)
 
 pub write_notes-requires : goal.write_notes-requires
-write_notes-requires c = record { bitmaps_bound = head_few _ _ _ c.requires.message_value (omega arith); bitmaps_in_bounds = head_room _ _ _ c.requires.message_value (omega arith); fields_value = c.requires.fields_value; table_in_bounds = c.requires.table_in_bounds; bitmaps_value = (sym (c.read_fields.ensures ∙ body_is (decoded c.args.table.now) _ _ _ c.requires.fields_value)) ∙ c.in-Used.is }
+write_notes-requires c = record {
+       bitmaps_bound = head_few _ _ _ c.requires.message_value (omega arith);
+       bitmaps_in_bounds = head_room _ _ _ c.requires.message_value (omega arith);
+       fields_value = c.requires.fields_value;
+       table_in_bounds = c.requires.table_in_bounds;
+       bitmaps_value = (sym (c.read_fields.ensures ∙ body_is (decoded c.args.table.now) _ _ _ c.requires.fields_value)) ∙ c.in-Used.is;
+     }
 
 pub returns-in-Refused : goal.returns-in-Refused
 returns-in-Refused c = let e = ends-refused _ _ _ c.requires.table_in_bounds _ _ c.requires.message_value ((sym (c.read_fields.ensures ∙ body_is (decoded c.args.table.now) _ _ _ c.requires.fields_value)) ∙ c.in-Refused.is) in

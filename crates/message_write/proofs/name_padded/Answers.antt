@@ -1,8 +1,6 @@
 -- By the answer: none on refusal, and else the short ones.
 use mathlib.Core.Path.{refl, ◌∙◌}
-use Prim.Native.Nat.{◌-◌}
 use Rattle.message_write.proofs.Ends.{padded_none, padded_some}
-use borrow.Author.Rules.{rules}
 use Rattle.message_write.proofs.name_padded.Goals as goal
 
 pub returns-in-Refused : goal.returns-in-Refused

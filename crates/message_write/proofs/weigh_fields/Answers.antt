@@ -1,23 +1,19 @@
 -- The walk ends as the rest of it does from where the loop has come to, and what was gathered so far and what is still to come make the whole
 -- (Weighing, and Loops of message_walk).
-use Prim.Native.Nat.{ℕ, ◌+◌, ◌-◌}
 use mathlib.Core.Path.{◌∙◌}
-use mathlib.Core.List.{List}
 use lib.ListN.{length, drop}
 use native.Mathlib.Omega.{arith}
 use Rattle.field_table.specs.Codes.{decoded}
 use Rattle.field_table.proofs.Decoded.{decoded_bounded}
-use Rattle.message_language.specs.Language.{Entry}
 use Rattle.message_notes.specs.Dialect.{plain_form, head_size}
 use Rattle.message_notes.specs.Notes.{count_in}
-use Rattle.message_walk.specs.Walk.{Fault, ending, entries_in, fields_on}
+use Rattle.message_walk.specs.Walk.{ending, entries_in, fields_on}
 use Rattle.message_walk.specs.Faults.{fault_by}
 use Rattle.message_walk.proofs.Ends.{counted, refused_none}
-use Rattle.message_walk.proofs.Loops.{Walking, walking_first, Turn, turn_refused, turn_end, turn_done, turn_room, turn_good, turn_here, turn_next}
+use Rattle.message_walk.proofs.Loops.{walking_first, Turn, turn_refused, turn_end, turn_done, turn_room, turn_good, turn_here, turn_next, turn_of}
 use Rattle.message_walk.proofs.Naming.{numbers_are, entries_good}
 use Rattle.message_write.specs.Written.{entries_by, short_on, size_on}
 use Rattle.message_write.proofs.Weighing.{Weighing, weighing_first, weighing_fits, weighing_next, weighed_fields, weighed_short, weighed_size, weighed_small, short_none, size_none}
-use borrow.Author.Rules.{rules}
 use Rattle.message_write.proofs.weigh_fields.Goals as goal
 
 pub loop-at-init : goal.loop-at-init
@@ -25,28 +21,50 @@ unfolding entries_by entries_in
 loop-at-init c = walking_first c.requires (weighing_first c.none-fields.ensures c.none-short.ensures)
 
 pub returns-in-Refused : goal.returns-in-Refused
-returns-in-Refused c = record { end = c.refused_at.ensures.end ∙ turn_refused ((let it : Turn plain_form ((fault_by (decoded c.args.table.now) c.args.values.now c.args.rule)) c.args.notes.now (ending plain_form ((fault_by (decoded c.args.table.now) c.args.values.now c.args.rule)) (count_in c.args.notes.now) (length c.args.notes.now) 0 head_size (drop head_size c.args.notes.now)) (Weighing (decoded c.args.table.now) ((entries_by (decoded c.args.table.now) c.args.values.now c.args.rule c.args.notes.now)) c.loop-at.fields.bits c.loop-at.short.bits c.loop-at.size c.loop-at.last) c.loop-at.at c.loop-at.last c.judge.result = record { loop = c.loop-at.invariant; judging = counted _ _ _ _ _ _ _ c.judge.ensures c.count_in-count.ensures } in it)) c.in-Refused.is; fields = c.refused_at.ensures.fields ∙ refused_none _ _ _ c.refused_at.ensures.end; short = c.refused_at.ensures.short ∙ short_none _ _ _ _ c.refused_at.ensures.end; size = c.refused_at.ensures.size ∙ size_none _ _ _ _ c.refused_at.ensures.end; small = omega (arith, c.refused_at.ensures.size) }
+returns-in-Refused c =
+    let turn = turn_of c.loop-at.invariant (counted _ _ _ _ _ _ _ c.judge.ensures c.count_in-count.ensures) in
+    record {
+          end = c.refused_at.ensures.end ∙ turn_refused turn c.in-Refused.is;
+          fields = c.refused_at.ensures.fields ∙ refused_none _ _ _ c.refused_at.ensures.end;
+          short = c.refused_at.ensures.short ∙ short_none _ _ _ _ c.refused_at.ensures.end;
+          size = c.refused_at.ensures.size ∙ size_none _ _ _ _ c.refused_at.ensures.end;
+          small = omega (arith, c.refused_at.ensures.size);
+        }
 
 pub returns-in-End : goal.returns-in-End
 unfolding fields_on short_on size_on entries_by
-returns-in-End c = let k = (let it : Turn plain_form ((fault_by (decoded c.args.table.now) c.args.values.now c.args.rule)) c.args.notes.now (ending plain_form ((fault_by (decoded c.args.table.now) c.args.values.now c.args.rule)) (count_in c.args.notes.now) (length c.args.notes.now) 0 head_size (drop head_size c.args.notes.now)) (Weighing (decoded c.args.table.now) ((entries_by (decoded c.args.table.now) c.args.values.now c.args.rule c.args.notes.now)) c.loop-at.fields.bits c.loop-at.short.bits c.loop-at.size c.loop-at.last) c.loop-at.at c.loop-at.last c.judge.result = record { loop = c.loop-at.invariant; judging = counted _ _ _ _ _ _ _ c.judge.ensures c.count_in-count.ensures } in it) in
-    let w = turn_done k c.in-End.is in
+returns-in-End c =
+    let turn = turn_of c.loop-at.invariant (counted _ _ _ _ _ _ _ c.judge.ensures c.count_in-count.ensures) in
+    let w = turn_done turn c.in-End.is in
     let are = numbers_are _ _ _ (entries_good _ _ _) in
-    record { end = turn_end k c.in-End.is; fields = weighed_fields are w; short = weighed_short are w; size = weighed_size are w; small = weighed_small w }
+    record {
+          end = turn_end turn c.in-End.is;
+          fields = weighed_fields are w;
+          short = weighed_short are w;
+          size = weighed_size are w;
+          small = weighed_small w;
+        }
 
 pub overflow_add-size : goal.overflow_add-size
-overflow_add-size c = omega (arith, weighing_fits (decoded_bounded _) (turn_here ((let it : Turn plain_form ((fault_by (decoded c.args.table.now) c.args.values.now c.args.rule)) c.args.notes.now (ending plain_form ((fault_by (decoded c.args.table.now) c.args.values.now c.args.rule)) (count_in c.args.notes.now) (length c.args.notes.now) 0 head_size (drop head_size c.args.notes.now)) (Weighing (decoded c.args.table.now) ((entries_by (decoded c.args.table.now) c.args.values.now c.args.rule c.args.notes.now)) c.loop-at.fields.bits c.loop-at.short.bits c.loop-at.size c.loop-at.last) c.loop-at.at c.loop-at.last c.judge.result = record { loop = c.loop-at.invariant; judging = counted _ _ _ _ _ _ _ c.judge.ensures c.count_in-count.ensures } in it)) c.in-Passed.is) (turn_good ((let it : Turn plain_form ((fault_by (decoded c.args.table.now) c.args.values.now c.args.rule)) c.args.notes.now (ending plain_form ((fault_by (decoded c.args.table.now) c.args.values.now c.args.rule)) (count_in c.args.notes.now) (length c.args.notes.now) 0 head_size (drop head_size c.args.notes.now)) (Weighing (decoded c.args.table.now) ((entries_by (decoded c.args.table.now) c.args.values.now c.args.rule c.args.notes.now)) c.loop-at.fields.bits c.loop-at.short.bits c.loop-at.size c.loop-at.last) c.loop-at.at c.loop-at.last c.judge.result = record { loop = c.loop-at.invariant; judging = counted _ _ _ _ _ _ _ c.judge.ensures c.count_in-count.ensures } in it)) c.in-Passed.is) _ c.written_size-size.ensures)
+overflow_add-size c =
+    let turn = turn_of c.loop-at.invariant (counted _ _ _ _ _ _ _ c.judge.ensures c.count_in-count.ensures) in
+    omega (arith, weighing_fits (decoded_bounded _) (turn_here turn c.in-Passed.is) (turn_good turn c.in-Passed.is) _ c.written_size-size.ensures)
 
 pub overflow_add-at : goal.overflow_add-at
-overflow_add-at c = omega (arith, turn_room ((let it : Turn plain_form ((fault_by (decoded c.args.table.now) c.args.values.now c.args.rule)) c.args.notes.now (ending plain_form ((fault_by (decoded c.args.table.now) c.args.values.now c.args.rule)) (count_in c.args.notes.now) (length c.args.notes.now) 0 head_size (drop head_size c.args.notes.now)) (Weighing (decoded c.args.table.now) ((entries_by (decoded c.args.table.now) c.args.values.now c.args.rule c.args.notes.now)) c.loop-at.fields.bits c.loop-at.short.bits c.loop-at.size c.loop-at.last) c.loop-at.at c.loop-at.last c.judge.result = record { loop = c.loop-at.invariant; judging = counted _ _ _ _ _ _ _ c.judge.ensures c.count_in-count.ensures } in it)) c.in-Passed.is)
+overflow_add-at c =
+    let turn = turn_of c.loop-at.invariant (counted _ _ _ _ _ _ _ c.judge.ensures c.count_in-count.ensures) in
+    omega (arith, turn_room turn c.in-Passed.is)
 
 pub loop-at-smaller : goal.loop-at-smaller
-loop-at-smaller c = omega (arith, turn_room ((let it : Turn plain_form ((fault_by (decoded c.args.table.now) c.args.values.now c.args.rule)) c.args.notes.now (ending plain_form ((fault_by (decoded c.args.table.now) c.args.values.now c.args.rule)) (count_in c.args.notes.now) (length c.args.notes.now) 0 head_size (drop head_size c.args.notes.now)) (Weighing (decoded c.args.table.now) ((entries_by (decoded c.args.table.now) c.args.values.now c.args.rule c.args.notes.now)) c.loop-at.fields.bits c.loop-at.short.bits c.loop-at.size c.loop-at.last) c.loop-at.at c.loop-at.last c.judge.result = record { loop = c.loop-at.invariant; judging = counted _ _ _ _ _ _ _ c.judge.ensures c.count_in-count.ensures } in it)) c.in-Passed.is)
+loop-at-smaller c =
+    let turn = turn_of c.loop-at.invariant (counted _ _ _ _ _ _ _ c.judge.ensures c.count_in-count.ensures) in
+    omega (arith, turn_room turn c.in-Passed.is)
 
 pub loop-at-preserved : goal.loop-at-preserved
-loop-at-preserved c = let k = (let it : Turn plain_form ((fault_by (decoded c.args.table.now) c.args.values.now c.args.rule)) c.args.notes.now (ending plain_form ((fault_by (decoded c.args.table.now) c.args.values.now c.args.rule)) (count_in c.args.notes.now) (length c.args.notes.now) 0 head_size (drop head_size c.args.notes.now)) (Weighing (decoded c.args.table.now) ((entries_by (decoded c.args.table.now) c.args.values.now c.args.rule c.args.notes.now)) c.loop-at.fields.bits c.loop-at.short.bits c.loop-at.size c.loop-at.last) c.loop-at.at c.loop-at.last c.judge.result = record { loop = c.loop-at.invariant; judging = counted _ _ _ _ _ _ _ c.judge.ensures c.count_in-count.ensures } in it) in
-    turn_next k c.in-Passed.is
-    (weighing_next (decoded_bounded _) (turn_here k c.in-Passed.is) (turn_good k c.in-Passed.is) _ c.written_size-size.ensures c.with-fields.ensures c.with_short-short.ensures)
+loop-at-preserved c =
+    let turn = turn_of c.loop-at.invariant (counted _ _ _ _ _ _ _ c.judge.ensures c.count_in-count.ensures) in
+    turn_next turn c.in-Passed.is
+    (weighing_next (decoded_bounded _) (turn_here turn c.in-Passed.is) (turn_good turn c.in-Passed.is) _ c.written_size-size.ensures c.with-fields.ensures c.with_short-short.ensures)
 
 pub returns : goal.returns
 returns c = absurd (omega (arith, c.loop-at-test.false, c.loop-at.invariant.inside))

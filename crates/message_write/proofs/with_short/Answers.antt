@@ -1,5 +1,4 @@
 -- With the field where it is short, and else as it was.
-use Prim.Native.Nat.{◌-◌}
 use Rattle.message_write.proofs.Weighing.{short_one, short_not}
 use borrow.Author.Rules.{rules}
 use Rattle.message_write.proofs.with_short.Goals as goal

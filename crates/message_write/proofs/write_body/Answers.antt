@@ -1,17 +1,12 @@
 -- What is written so far and what is still to come make the whole, and every content to come is one that may be written (Writing).
-use Prim.Native.Nat.{◌+◌, ◌-◌, ◌≤◌}
-use mathlib.Core.List.{◌∷◌}
-use lib.ListN.{length, drop}
 use native.Mathlib.Omega.{arith}
 use Rattle.field_table.specs.Codes.{decoded}
 use Rattle.field_table.proofs.Decoded.{decoded_bounded}
-use Rattle.message_language.specs.Language.{entry}
-use Rattle.message_notes.specs.Dialect.{plain_form, note_size}
+use Rattle.message_notes.specs.Dialect.{plain_form}
 use Rattle.message_notes.specs.Notes.{count_in}
-use Rattle.message_walk.specs.Walk.{listed_from, listed_in}
-use Rattle.message_walk.proofs.Loops.{Reading, reading_first, Read, read_malformed, read_end, read_room, read_here, read_next}
+use Rattle.message_walk.specs.Walk.{listed_in}
+use Rattle.message_walk.proofs.Loops.{reading_first, Read, read_malformed, read_end, read_room, read_here, read_next, read_of}
 use Rattle.message_write.proofs.Writing.{cleared, Writing, writing_first, writing_done, writing_taken, writing_fits, writing_more}
-use borrow.Author.Rules.{rules}
 use Rattle.message_write.proofs.write_body.Goals as goal
 
 pub loop-at-init : goal.loop-at-init
@@ -21,38 +16,58 @@ pub shape_of-out-in-Malformed : goal.shape_of-out-in-Malformed
 shape_of-out-in-Malformed c = c.loop-at.invariant.holds.written.size
 
 pub returns-in-Malformed : goal.returns-in-Malformed
-returns-in-Malformed c = writing_done (read_malformed ((let it : Read plain_form c.args.notes.now (Writing (decoded c.args.table.now) c.args.values.now (count_in c.args.notes.now) (listed_in plain_form c.args.notes.now) c.args.out.now c.loop-at.out c.loop-at.written) c.loop-at.at c.read_note.result = record { loop = c.loop-at.invariant; note = c.read_note.ensures } in it)) c.in-Malformed.is)
+returns-in-Malformed c =
+    let read = read_of c.loop-at.invariant c.read_note.ensures in
+    writing_done (read_malformed read c.in-Malformed.is)
 
 pub shape_of-out-in-End : goal.shape_of-out-in-End
 shape_of-out-in-End c = c.loop-at.invariant.holds.written.size
 
 pub returns-in-End : goal.returns-in-End
-returns-in-End c = writing_done (read_end ((let it : Read plain_form c.args.notes.now (Writing (decoded c.args.table.now) c.args.values.now (count_in c.args.notes.now) (listed_in plain_form c.args.notes.now) c.args.out.now c.loop-at.out c.loop-at.written) c.loop-at.at c.read_note.result = record { loop = c.loop-at.invariant; note = c.read_note.ensures } in it)) c.in-End.is)
+returns-in-End c =
+    let read = read_of c.loop-at.invariant c.read_note.ensures in
+    writing_done (read_end read c.in-End.is)
 
 pub overflow_add-end : goal.overflow_add-end
-overflow_add-end c = omega (arith, (writing_taken (decoded_bounded _) ((read_here ((let it : Read plain_form c.args.notes.now (Writing (decoded c.args.table.now) c.args.values.now (count_in c.args.notes.now) (listed_in plain_form c.args.notes.now) c.args.out.now c.loop-at.out c.loop-at.written) c.loop-at.at c.read_note.result = record { loop = c.loop-at.invariant; note = c.read_note.ensures } in it)) c.in-Field.is))).place)
+overflow_add-end c =
+    let read = read_of c.loop-at.invariant c.read_note.ensures in
+    omega (arith, (writing_taken (decoded_bounded _) (read_here read c.in-Field.is)).place)
 
 pub slice_bounds-put_field-end : goal.slice_bounds-put_field-end
-slice_bounds-put_field-end c = (writing_taken (decoded_bounded _) ((read_here ((let it : Read plain_form c.args.notes.now (Writing (decoded c.args.table.now) c.args.values.now (count_in c.args.notes.now) (listed_in plain_form c.args.notes.now) c.args.out.now c.loop-at.out c.loop-at.written) c.loop-at.at c.read_note.result = record { loop = c.loop-at.invariant; note = c.read_note.ensures } in it)) c.in-Field.is))).place
+slice_bounds-put_field-end c =
+    let read = read_of c.loop-at.invariant c.read_note.ensures in
+    (writing_taken (decoded_bounded _) (read_here read c.in-Field.is)).place
 
 pub slice_bounds-put_field-count-in-Field : goal.slice_bounds-put_field-count-in-Field
-slice_bounds-put_field-count-in-Field c = omega (arith, (writing_fits (decoded_bounded _) ((read_here ((let it : Read plain_form c.args.notes.now (Writing (decoded c.args.table.now) c.args.values.now (count_in c.args.notes.now) (listed_in plain_form c.args.notes.now) c.args.out.now c.loop-at.out c.loop-at.written) c.loop-at.at c.read_note.result = record { loop = c.loop-at.invariant; note = c.read_note.ensures } in it)) c.in-Field.is)) c.written_size-size.ensures c.requires.notes_in_bounds))
+slice_bounds-put_field-count-in-Field c =
+    let read = read_of c.loop-at.invariant c.read_note.ensures in
+    omega (arith, (writing_fits (decoded_bounded _) (read_here read c.in-Field.is) c.written_size-size.ensures c.requires.notes_in_bounds))
 
 pub slice_bounds-put_field-start-in-Field : goal.slice_bounds-put_field-start-in-Field
-slice_bounds-put_field-start-in-Field c = omega (arith, (writing_fits (decoded_bounded _) ((read_here ((let it : Read plain_form c.args.notes.now (Writing (decoded c.args.table.now) c.args.values.now (count_in c.args.notes.now) (listed_in plain_form c.args.notes.now) c.args.out.now c.loop-at.out c.loop-at.written) c.loop-at.at c.read_note.result = record { loop = c.loop-at.invariant; note = c.read_note.ensures } in it)) c.in-Field.is)) c.written_size-size.ensures c.requires.notes_in_bounds))
+slice_bounds-put_field-start-in-Field c =
+    let read = read_of c.loop-at.invariant c.read_note.ensures in
+    omega (arith, (writing_fits (decoded_bounded _) (read_here read c.in-Field.is) c.written_size-size.ensures c.requires.notes_in_bounds))
 
 pub overflow_add-written : goal.overflow_add-written
-overflow_add-written c = omega (arith, (writing_fits (decoded_bounded _) ((read_here ((let it : Read plain_form c.args.notes.now (Writing (decoded c.args.table.now) c.args.values.now (count_in c.args.notes.now) (listed_in plain_form c.args.notes.now) c.args.out.now c.loop-at.out c.loop-at.written) c.loop-at.at c.read_note.result = record { loop = c.loop-at.invariant; note = c.read_note.ensures } in it)) c.in-Field.is)) c.written_size-size.ensures c.requires.notes_in_bounds))
+overflow_add-written c =
+    let read = read_of c.loop-at.invariant c.read_note.ensures in
+    omega (arith, (writing_fits (decoded_bounded _) (read_here read c.in-Field.is) c.written_size-size.ensures c.requires.notes_in_bounds))
 
 pub overflow_add-at : goal.overflow_add-at
-overflow_add-at c = omega (arith, read_room ((let it : Read plain_form c.args.notes.now (Writing (decoded c.args.table.now) c.args.values.now (count_in c.args.notes.now) (listed_in plain_form c.args.notes.now) c.args.out.now c.loop-at.out c.loop-at.written) c.loop-at.at c.read_note.result = record { loop = c.loop-at.invariant; note = c.read_note.ensures } in it)) c.in-Field.is)
+overflow_add-at c =
+    let read = read_of c.loop-at.invariant c.read_note.ensures in
+    omega (arith, read_room read c.in-Field.is)
 
 pub loop-at-smaller : goal.loop-at-smaller
-loop-at-smaller c = omega (arith, read_room ((let it : Read plain_form c.args.notes.now (Writing (decoded c.args.table.now) c.args.values.now (count_in c.args.notes.now) (listed_in plain_form c.args.notes.now) c.args.out.now c.loop-at.out c.loop-at.written) c.loop-at.at c.read_note.result = record { loop = c.loop-at.invariant; note = c.read_note.ensures } in it)) c.in-Field.is)
+loop-at-smaller c =
+    let read = read_of c.loop-at.invariant c.read_note.ensures in
+    omega (arith, read_room read c.in-Field.is)
 
 pub loop-at-preserved : goal.loop-at-preserved
-loop-at-preserved c = read_next ((let it : Read plain_form c.args.notes.now (Writing (decoded c.args.table.now) c.args.values.now (count_in c.args.notes.now) (listed_in plain_form c.args.notes.now) c.args.out.now c.loop-at.out c.loop-at.written) c.loop-at.at c.read_note.result = record { loop = c.loop-at.invariant; note = c.read_note.ensures } in it)) c.in-Field.is
-    (writing_more (decoded_bounded _) ((read_here ((let it : Read plain_form c.args.notes.now (Writing (decoded c.args.table.now) c.args.values.now (count_in c.args.notes.now) (listed_in plain_form c.args.notes.now) c.args.out.now c.loop-at.out c.loop-at.written) c.loop-at.at c.read_note.result = record { loop = c.loop-at.invariant; note = c.read_note.ensures } in it)) c.in-Field.is)) c.written_size-size.ensures c.requires.notes_in_bounds c.put_field.ensures)
+loop-at-preserved c =
+    let read = read_of c.loop-at.invariant c.read_note.ensures in
+    read_next read c.in-Field.is
+    (writing_more (decoded_bounded _) (read_here read c.in-Field.is) c.written_size-size.ensures c.requires.notes_in_bounds c.put_field.ensures)
 
 pub shape_of-out : goal.shape_of-out
 shape_of-out c = c.loop-at.invariant.holds.written.size

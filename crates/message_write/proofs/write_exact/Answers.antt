@@ -1,5 +1,4 @@
 -- By the numbers that are lent, which stand for the house table; what the exact writer takes, the cleaning one does.
-use Prim.Native.Nat.{◌-◌}
 use Rattle.field_write.proofs.Allowed.{exact_is_clean}
 use Rattle.message_walk.specs.Faults.{asked}
 use Rattle.message_write.proofs.Ends.{exact_answer_lem, exact_told, exact_output_lem}

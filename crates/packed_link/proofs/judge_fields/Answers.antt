@@ -11,22 +11,22 @@ pub loop-i-init : goal.loop-i-init
 loop-i-init c = scan_first c.requires.start_in_bounds
 
 pub returns-in-Refused : goal.returns-in-Refused
-returns-in-Refused c = scan_refused c.loop-i.invariant ((met _ _ _ _ _ _ _ _ c.loop-i-test.true c.wide-field.ensures.value c.judge_item.ensures)) c.in-Refused.is
+returns-in-Refused c = scan_refused c.loop-i.invariant (met _ _ _ _ _ _ _ _ c.loop-i-test.true c.wide-field.ensures.value c.judge_item.ensures) c.in-Refused.is
 
 pub overflow_add-at : goal.overflow_add-at
-overflow_add-at c = omega (arith, scan_within c.loop-i.invariant ((met _ _ _ _ _ _ _ _ c.loop-i-test.true c.wide-field.ensures.value c.judge_item.ensures)) c.in-Found.is)
+overflow_add-at c = omega (arith, scan_within c.loop-i.invariant (met _ _ _ _ _ _ _ _ c.loop-i-test.true c.wide-field.ensures.value c.judge_item.ensures) c.in-Found.is)
 
 pub overflow_add-at-in-Found : goal.overflow_add-at-in-Found
-overflow_add-at-in-Found c = omega (arith, scan_within c.loop-i.invariant ((met _ _ _ _ _ _ _ _ c.loop-i-test.true c.wide-field.ensures.value c.judge_item.ensures)) c.in-Found.is)
+overflow_add-at-in-Found c = omega (arith, scan_within c.loop-i.invariant (met _ _ _ _ _ _ _ _ c.loop-i-test.true c.wide-field.ensures.value c.judge_item.ensures) c.in-Found.is)
 
 pub overflow_add-written : goal.overflow_add-written
-overflow_add-written c = omega (arith, scan_small c.loop-i.invariant ((met _ _ _ _ _ _ _ _ c.loop-i-test.true c.wide-field.ensures.value c.judge_item.ensures)) c.in-Found.is, c.loop-i-test.true, c.requires.before_bound, c.requires.fields_len_bound)
+overflow_add-written c = omega (arith, scan_small c.loop-i.invariant (met _ _ _ _ _ _ _ _ c.loop-i-test.true c.wide-field.ensures.value c.judge_item.ensures) c.in-Found.is, c.loop-i-test.true, c.requires.before_bound, c.requires.fields_len_bound)
 
 pub loop-i-smaller : goal.loop-i-smaller
 loop-i-smaller c = omega (arith, c.loop-i-test.true)
 
 pub loop-i-preserved : goal.loop-i-preserved
-loop-i-preserved c = scan_good c.loop-i.invariant ((met _ _ _ _ _ _ _ _ c.loop-i-test.true c.wide-field.ensures.value c.judge_item.ensures)) c.in-Found.is
+loop-i-preserved c = scan_good c.loop-i.invariant (met _ _ _ _ _ _ _ _ c.loop-i-test.true c.wide-field.ensures.value c.judge_item.ensures) c.in-Found.is
 
 pub returns : goal.returns
 unfolding fields_judged

@@ -23,7 +23,10 @@ pub slice_bounds-numbers-end : goal.slice_bounds-numbers-end
 slice_bounds-numbers-end c = (list_few c.args.input.now c.size_of-start.result c.args.bitmaps _ _ _ c.list_fields-list.ensures.count c.list_fields-list.ensures.numbers refl)
 
 pub slice_bounds-translate_listed-end : goal.slice_bounds-translate_listed-end
-slice_bounds-translate_listed-end c = sym (length-take-le _ _ ((list_few c.args.input.now c.size_of-start.result c.args.bitmaps _ _ _ c.list_fields-list.ensures.count c.list_fields-list.ensures.numbers refl)))
+slice_bounds-translate_listed-end c = sym (length-take-le _ _ (list_few c.args.input.now c.size_of-start.result c.args.bitmaps _ _ _ c.list_fields-list.ensures.count c.list_fields-list.ensures.numbers refl))
 
 pub translate_listed-requires : goal.translate_listed-requires
-translate_listed-requires c = record { input_value = c.requires; fields_value = list_is c.args.input.now c.size_of-start.result c.args.bitmaps _ _ _ c.list_fields-list.ensures.count c.list_fields-list.ensures.numbers (head_few _ _ _ _ (omega arith) c.requires) ∙ ap (λ (y : ℕ). fields_of (maps_of y c.args.input.now c.args.bitmaps) c.args.bitmaps) c.size_of-start.ensures }
+translate_listed-requires c = record {
+       input_value = c.requires;
+       fields_value = list_is c.args.input.now c.size_of-start.result c.args.bitmaps _ _ _ c.list_fields-list.ensures.count c.list_fields-list.ensures.numbers (head_few _ _ _ _ (omega arith) c.requires) ∙ ap (λ (y : ℕ). fields_of (maps_of y c.args.input.now c.args.bitmaps) c.args.bitmaps) c.size_of-start.ensures;
+     }

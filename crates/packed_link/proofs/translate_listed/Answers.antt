@@ -26,7 +26,11 @@ overflow_add-before c = omega (arith, head_few _ _ _ _ (omega arith) c.requires.
 pub judge_fields-requires : goal.judge_fields-requires
 judge_fields-requires c = let f = head_few _ _ _ _ (omega arith) c.requires.input_value in
     let r = head_room _ _ _ _ (omega arith) c.requires.input_value in
-    record { start_in_bounds = omega (arith, r, c.size_of.ensures); before_bound = omega (arith, f, mti_small c.other_script.result, c.size_of-2.ensures); fields_len_bound = omega (arith, f, ap length c.requires.fields_value, fields_few (maps_of (size_of c.args.script 4) c.args.input.now c.args.bitmaps) c.args.bitmaps 3 (omega arith) f) }
+    record {
+          start_in_bounds = omega (arith, r, c.size_of.ensures);
+          before_bound = omega (arith, f, mti_small c.other_script.result, c.size_of-2.ensures);
+          fields_len_bound = omega (arith, f, ap length c.requires.fields_value, fields_few (maps_of (size_of c.args.script 4) c.args.input.now c.args.bitmaps) c.args.bitmaps 3 (omega arith) f);
+        }
 
 pub returns-then-out-written : goal.returns-then-out-written
 returns-then-out-written c = let e = ends-short _ _ _ _ _ _ c.requires.input_value _ _ ((sym (c.judge_fields.ensures ∙ body_is _ (decoded c.args.table.now) _ _ _ c.requires.fields_value _ _ (ap (λ (y : ℕ). y + 8 * c.args.bitmaps) c.size_of.ensures)

@@ -39,7 +39,11 @@ slice_bounds-write_fields-start c = omega (arith, (fields_room _ (decoded c.args
 
 pub write_fields-requires : goal.write_fields-requires
 write_fields-requires c = let g = fields_good _ _ _ _ c.args.out.now _ c.requires.input_value c.requires.fields_value _ c.size_of-start.ensures _ c.other_script.ensures _ c.size_of-first.ensures _ _ c.requires.by_index.2.0 c.requires.by_index.2.1 in
-    record { start_in_bounds = (inside _ (decoded c.args.table.now) _ _ c.args.out.now _ c.requires.input_value c.requires.fields_value _ c.size_of-start.ensures); by_index = (_, _, _, g); input_in_bounds = omega (arith, (fields_room _ (decoded c.args.table.now) _ _ c.args.out.now _ c.requires.input_value c.requires.fields_value _ c.size_of-start.ensures _ c.other_script.ensures _ c.size_of-first.ensures _ _ c.requires.by_index.2.0 c.requires.by_index.2.1), c.write_fields-arg-1.given, c.out-2-1.given, c.out-1.given) }
+    record {
+          start_in_bounds = (inside _ (decoded c.args.table.now) _ _ c.args.out.now _ c.requires.input_value c.requires.fields_value _ c.size_of-start.ensures);
+          by_index = (_, _, _, g);
+          input_in_bounds = omega (arith, (fields_room _ (decoded c.args.table.now) _ _ c.args.out.now _ c.requires.input_value c.requires.fields_value _ c.size_of-start.ensures _ c.other_script.ensures _ c.size_of-first.ensures _ _ c.requires.by_index.2.0 c.requires.by_index.2.1), c.write_fields-arg-1.given, c.out-2-1.given, c.out-1.given);
+        }
 
 pub returns : goal.returns
 returns c = message_written _ (decoded c.args.table.now) _ _ c.args.out.now _ c.requires.input_value c.requires.fields_value _ c.size_of-start.ensures _ c.other_script.ensures _ c.size_of-first.ensures _ _ c.requires.by_index.2.0 c.requires.by_index.2.1 _ _ _

@@ -6,16 +6,26 @@ use native.Mathlib.Omega.{arith}
 use Rattle.till_lines.proofs.put_mti.Goals as goal
 
 pub slice_bounds-put-count : goal.slice_bounds-put-count
-slice_bounds-put-count c = omega (arith, mti_begun_size ((let it : MtiBegun c.args.mti.now c.args.out.now c.put.new.out = record { room = c.requires; word = c.put.ensures } in it)), mti_room ((let it : MtiBegun c.args.mti.now c.args.out.now c.put.new.out = record { room = c.requires; word = c.put.ensures } in it)))
+slice_bounds-put-count c =
+    let mti_begun : MtiBegun c.args.mti.now c.args.out.now c.put.new.out = record { room = c.requires; word = c.put.ensures } in
+    omega (arith, mti_begun_size mti_begun, mti_room mti_begun)
 
 pub slice_bounds-put-start : goal.slice_bounds-put-start
-slice_bounds-put-start c = omega (arith, mti_begun_size ((let it : MtiBegun c.args.mti.now c.args.out.now c.put.new.out = record { room = c.requires; word = c.put.ensures } in it)), mti_room ((let it : MtiBegun c.args.mti.now c.args.out.now c.put.new.out = record { room = c.requires; word = c.put.ensures } in it)))
+slice_bounds-put-start c =
+    let mti_begun : MtiBegun c.args.mti.now c.args.out.now c.put.new.out = record { room = c.requires; word = c.put.ensures } in
+    omega (arith, mti_begun_size mti_begun, mti_room mti_begun)
 
 pub bounds-out-end : goal.bounds-out-end
-bounds-out-end c = omega (arith, mti_put_size ((let it : MtiBegun c.args.mti.now c.args.out.now c.put.new.out = record { room = c.requires; word = c.put.ensures } in it)) c.put-2.ensures, mti_room ((let it : MtiBegun c.args.mti.now c.args.out.now c.put.new.out = record { room = c.requires; word = c.put.ensures } in it)))
+bounds-out-end c =
+    let mti_begun : MtiBegun c.args.mti.now c.args.out.now c.put.new.out = record { room = c.requires; word = c.put.ensures } in
+    omega (arith, mti_put_size mti_begun c.put-2.ensures, mti_room mti_begun)
 
 pub shape_of-out : goal.shape_of-out
-shape_of-out c = as_long _ _ _ (mti_ended ((let it : MtiBegun c.args.mti.now c.args.out.now c.put.new.out = record { room = c.requires; word = c.put.ensures } in it)) c.put-2.ensures) c.requires
+shape_of-out c =
+    let mti_begun : MtiBegun c.args.mti.now c.args.out.now c.put.new.out = record { room = c.requires; word = c.put.ensures } in
+    as_long _ _ _ (mti_ended mti_begun c.put-2.ensures) c.requires
 
 pub returns : goal.returns
-returns c = record { size = omega (arith, mti_line_long c.args.mti.now); writes = mti_ended ((let it : MtiBegun c.args.mti.now c.args.out.now c.put.new.out = record { room = c.requires; word = c.put.ensures } in it)) c.put-2.ensures }
+returns c =
+    let mti_begun : MtiBegun c.args.mti.now c.args.out.now c.put.new.out = record { room = c.requires; word = c.put.ensures } in
+    record { size = omega (arith, mti_line_long c.args.mti.now); writes = mti_ended mti_begun c.put-2.ensures }

@@ -10,7 +10,7 @@ use Rattle.message_notes.specs.Dialect.{plain_form}
 use Rattle.message_notes.specs.Notes.{note_at}
 use Rattle.message_reader.specs.Reader.{reading_with}
 use Rattle.till_lines.specs.Lines.{reading_lines}
-use Rattle.till_lines.proofs.Reading.{Opened, Begun, Headed, input_four, lines_room, mti_fits, begun_room, begun_size, maps_fits, headed_room, headed_size, headed_over, walked_first}
+use Rattle.till_lines.proofs.Reading.{Opened, Begun, Headed, input_four, lines_room, mti_fits, begun_room, begun_size, maps_fits, headed_room, headed_size, headed_over, walked_first, headed_of, opened_of, begun_of}
 use Rattle.till_lines.proofs.Walking.{Walked, note_part, walked_inside, field_room, field_within, field_inside, walked_field, end_room, walked_end, never_malformed}
 use Rattle.till_lines.proofs.Writing.{as_long}
 use native.Mathlib.Omega.{arith}
@@ -18,25 +18,37 @@ use borrow.Author.Rules.{rules}
 use Rattle.till_lines.proofs.put_reading.Goals as goal
 
 pub slice_bounds-put_mti-end : goal.slice_bounds-put_mti-end
-slice_bounds-put_mti-end c = sym (length-take-le 4 c.args.input.now (input_four ((record { short = c.requires.input_len_bound; read = c.requires.input_value; room = c.requires.text_room_in_bounds }))))
+slice_bounds-put_mti-end c = sym (length-take-le 4 c.args.input.now (input_four (opened_of c.requires.input_len_bound c.requires.input_value c.requires.text_room_in_bounds)))
 
 pub put_mti-written-requires : goal.put_mti-written-requires
-put_mti-written-requires c = mti_fits ((record { short = c.requires.input_len_bound; read = c.requires.input_value; room = c.requires.text_room_in_bounds }))
+put_mti-written-requires c = mti_fits (opened_of c.requires.input_len_bound c.requires.input_value c.requires.text_room_in_bounds)
 
 pub slice_bounds-put_named-count : goal.slice_bounds-put_named-count
-slice_bounds-put_named-count c = omega (arith, begun_size ((let it : Begun c.args.input.now c.args.used c.args.bitmaps c.args.text.now c.put_mti-written.new.out c.put_mti-written.result = record { opened = (record { short = c.requires.input_len_bound; read = c.requires.input_value; room = c.requires.text_room_in_bounds }); count = c.put_mti-written.ensures.size; laid = c.put_mti-written.ensures.writes } in it)), begun_room ((let it : Begun c.args.input.now c.args.used c.args.bitmaps c.args.text.now c.put_mti-written.new.out c.put_mti-written.result = record { opened = (record { short = c.requires.input_len_bound; read = c.requires.input_value; room = c.requires.text_room_in_bounds }); count = c.put_mti-written.ensures.size; laid = c.put_mti-written.ensures.writes } in it)), c.requires.text_room_in_bounds)
+slice_bounds-put_named-count c =
+    let begun = begun_of (opened_of c.requires.input_len_bound c.requires.input_value c.requires.text_room_in_bounds) c.put_mti-written.ensures.size c.put_mti-written.ensures.writes in
+    omega (arith, begun_size begun, begun_room begun, c.requires.text_room_in_bounds)
 
 pub slice_bounds-put_named-start : goal.slice_bounds-put_named-start
-slice_bounds-put_named-start c = omega (arith, begun_size ((let it : Begun c.args.input.now c.args.used c.args.bitmaps c.args.text.now c.put_mti-written.new.out c.put_mti-written.result = record { opened = (record { short = c.requires.input_len_bound; read = c.requires.input_value; room = c.requires.text_room_in_bounds }); count = c.put_mti-written.ensures.size; laid = c.put_mti-written.ensures.writes } in it)), begun_room ((let it : Begun c.args.input.now c.args.used c.args.bitmaps c.args.text.now c.put_mti-written.new.out c.put_mti-written.result = record { opened = (record { short = c.requires.input_len_bound; read = c.requires.input_value; room = c.requires.text_room_in_bounds }); count = c.put_mti-written.ensures.size; laid = c.put_mti-written.ensures.writes } in it)), c.requires.text_room_in_bounds)
+slice_bounds-put_named-start c =
+    let begun = begun_of (opened_of c.requires.input_len_bound c.requires.input_value c.requires.text_room_in_bounds) c.put_mti-written.ensures.size c.put_mti-written.ensures.writes in
+    omega (arith, begun_size begun, begun_room begun, c.requires.text_room_in_bounds)
 
 pub put_named-written-requires : goal.put_named-written-requires
-put_named-written-requires c = maps_fits ((let it : Begun c.args.input.now c.args.used c.args.bitmaps c.args.text.now c.put_mti-written.new.out c.put_mti-written.result = record { opened = (record { short = c.requires.input_len_bound; read = c.requires.input_value; room = c.requires.text_room_in_bounds }); count = c.put_mti-written.ensures.size; laid = c.put_mti-written.ensures.writes } in it))
+put_named-written-requires c =
+    let begun = begun_of (opened_of c.requires.input_len_bound c.requires.input_value c.requires.text_room_in_bounds) c.put_mti-written.ensures.size c.put_mti-written.ensures.writes in
+    maps_fits begun
 
 pub overflow_add-written : goal.overflow_add-written
-overflow_add-written c = omega (arith, headed_room ((let it : Headed c.args.input.now c.args.used c.args.bitmaps c.args.text.now c.put_mti-written.new.out c.put_mti-written.result c.put_named-written.new.out c.put_named-written.result = record { begun = (let it : Begun c.args.input.now c.args.used c.args.bitmaps c.args.text.now c.put_mti-written.new.out c.put_mti-written.result = record { opened = (record { short = c.requires.input_len_bound; read = c.requires.input_value; room = c.requires.text_room_in_bounds }); count = c.put_mti-written.ensures.size; laid = c.put_mti-written.ensures.writes } in it); count = c.put_named-written.ensures.size; laid = c.put_named-written.ensures.writes } in it)))
+overflow_add-written c =
+    let begun = begun_of (opened_of c.requires.input_len_bound c.requires.input_value c.requires.text_room_in_bounds) c.put_mti-written.ensures.size c.put_mti-written.ensures.writes in
+    let headed = headed_of begun c.put_named-written.ensures.size c.put_named-written.ensures.writes in
+    omega (arith, headed_room headed)
 
 pub loop-at-init : goal.loop-at-init
-loop-at-init c = walked_first ((let it : Headed c.args.input.now c.args.used c.args.bitmaps c.args.text.now c.put_mti-written.new.out c.put_mti-written.result c.put_named-written.new.out c.put_named-written.result = record { begun = (let it : Begun c.args.input.now c.args.used c.args.bitmaps c.args.text.now c.put_mti-written.new.out c.put_mti-written.result = record { opened = (record { short = c.requires.input_len_bound; read = c.requires.input_value; room = c.requires.text_room_in_bounds }); count = c.put_mti-written.ensures.size; laid = c.put_mti-written.ensures.writes } in it); count = c.put_named-written.ensures.size; laid = c.put_named-written.ensures.writes } in it)) c.args.notes.now c.requires.notes_value
+loop-at-init c =
+    let begun = begun_of (opened_of c.requires.input_len_bound c.requires.input_value c.requires.text_room_in_bounds) c.put_mti-written.ensures.size c.put_mti-written.ensures.writes in
+    let headed = headed_of begun c.put_named-written.ensures.size c.put_named-written.ensures.writes in
+    walked_first headed c.args.notes.now c.requires.notes_value
 
 pub slice_bounds-put_field-count : goal.slice_bounds-put_field-count
 slice_bounds-put_field-count c = omega (arith, c.loop-at.invariant.written.within)
@@ -45,19 +57,35 @@ pub slice_bounds-put_field-start : goal.slice_bounds-put_field-start
 slice_bounds-put_field-start c = omega (arith, c.loop-at.invariant.written.within)
 
 pub put_field-written-requires : goal.put_field-written-requires
-put_field-written-requires c = field_room c.loop-at.invariant ((let it : (note_at plain_form (drop c.loop-at.at c.args.notes.now)) ≡ Field c.in-Field.number c.in-Field.offset c.in-Field.length = note_part c.args.notes.now c.loop-at.at _ _ c.read_note.ensures c.in-Field.is in it))
+put_field-written-requires c =
+    let is_here :
+        (note_at plain_form (drop c.loop-at.at c.args.notes.now)) ≡ Field c.in-Field.number c.in-Field.offset c.in-Field.length =
+        note_part c.args.notes.now c.loop-at.at _ _ c.read_note.ensures c.in-Field.is in
+    field_room c.loop-at.invariant is_here
 
 pub overflow_add-written-in-Field : goal.overflow_add-written-in-Field
-overflow_add-written-in-Field c = omega (arith, c.put_field-written.ensures.size, field_within c.loop-at.invariant ((let it : (note_at plain_form (drop c.loop-at.at c.args.notes.now)) ≡ Field c.in-Field.number c.in-Field.offset c.in-Field.length = note_part c.args.notes.now c.loop-at.at _ _ c.read_note.ensures c.in-Field.is in it)), lines_room ((record { short = c.requires.input_len_bound; read = c.requires.input_value; room = c.requires.text_room_in_bounds })))
+overflow_add-written-in-Field c =
+    let is_here :
+        (note_at plain_form (drop c.loop-at.at c.args.notes.now)) ≡ Field c.in-Field.number c.in-Field.offset c.in-Field.length =
+        note_part c.args.notes.now c.loop-at.at _ _ c.read_note.ensures c.in-Field.is in
+    omega (arith, c.put_field-written.ensures.size, field_within c.loop-at.invariant is_here, lines_room (opened_of c.requires.input_len_bound c.requires.input_value c.requires.text_room_in_bounds))
 
 pub overflow_add-at : goal.overflow_add-at
-overflow_add-at c = omega (arith, field_inside c.loop-at.invariant ((let it : (note_at plain_form (drop c.loop-at.at c.args.notes.now)) ≡ Field c.in-Field.number c.in-Field.offset c.in-Field.length = note_part c.args.notes.now c.loop-at.at _ _ c.read_note.ensures c.in-Field.is in it)))
+overflow_add-at c =
+    let is_here :
+        (note_at plain_form (drop c.loop-at.at c.args.notes.now)) ≡ Field c.in-Field.number c.in-Field.offset c.in-Field.length =
+        note_part c.args.notes.now c.loop-at.at _ _ c.read_note.ensures c.in-Field.is in
+    omega (arith, field_inside c.loop-at.invariant is_here)
 
 pub loop-at-smaller : goal.loop-at-smaller
 loop-at-smaller c = omega (arith, c.loop-at-test.true)
 
 pub loop-at-preserved : goal.loop-at-preserved
-loop-at-preserved c = walked_field c.loop-at.invariant ((let it : (note_at plain_form (drop c.loop-at.at c.args.notes.now)) ≡ Field c.in-Field.number c.in-Field.offset c.in-Field.length = note_part c.args.notes.now c.loop-at.at _ _ c.read_note.ensures c.in-Field.is in it)) c.put_field-written.ensures.size c.put_field-written.ensures.writes
+loop-at-preserved c =
+    let is_here :
+        (note_at plain_form (drop c.loop-at.at c.args.notes.now)) ≡ Field c.in-Field.number c.in-Field.offset c.in-Field.length =
+        note_part c.args.notes.now c.loop-at.at _ _ c.read_note.ensures c.in-Field.is in
+    walked_field c.loop-at.invariant is_here c.put_field-written.ensures.size c.put_field-written.ensures.writes
 
 pub slice_bounds-put_named-count-in-End : goal.slice_bounds-put_named-count-in-End
 slice_bounds-put_named-count-in-End c = omega (arith, c.loop-at.invariant.written.within)
@@ -66,28 +94,48 @@ pub slice_bounds-put_named-start-in-End : goal.slice_bounds-put_named-start-in-E
 slice_bounds-put_named-start-in-End c = omega (arith, c.loop-at.invariant.written.within)
 
 pub put_named-requires : goal.put_named-requires
-put_named-requires c = end_room c.loop-at.invariant ((let it : (note_at plain_form (drop c.loop-at.at c.args.notes.now)) ≡ End c.in-End.field-0 = note_part c.args.notes.now c.loop-at.at _ _ c.read_note.ensures c.in-End.is in it))
+put_named-requires c =
+    let is_here : (note_at plain_form (drop c.loop-at.at c.args.notes.now)) ≡ End c.in-End.field-0 = note_part c.args.notes.now c.loop-at.at _ _ c.read_note.ensures c.in-End.is in
+    end_room c.loop-at.invariant is_here
 
 pub overflow_add-result : goal.overflow_add-result
-overflow_add-result c = omega (arith, (walked_end c.loop-at.invariant ((let it : (note_at plain_form (drop c.loop-at.at c.args.notes.now)) ≡ End c.in-End.field-0 = note_part c.args.notes.now c.loop-at.at _ _ c.read_note.ensures c.in-End.is in it)) c.put_named.ensures.size c.put_named.ensures.writes).0, lines_room ((record { short = c.requires.input_len_bound; read = c.requires.input_value; room = c.requires.text_room_in_bounds })))
+overflow_add-result c =
+    let is_here : (note_at plain_form (drop c.loop-at.at c.args.notes.now)) ≡ End c.in-End.field-0 = note_part c.args.notes.now c.loop-at.at _ _ c.read_note.ensures c.in-End.is in
+    omega (arith, (walked_end c.loop-at.invariant is_here c.put_named.ensures.size c.put_named.ensures.writes).0, lines_room (opened_of c.requires.input_len_bound c.requires.input_value c.requires.text_room_in_bounds))
 
 pub shape_of-text-in-End : goal.shape_of-text-in-End
-shape_of-text-in-End c = as_long _ _ _ (walked_end c.loop-at.invariant ((let it : (note_at plain_form (drop c.loop-at.at c.args.notes.now)) ≡ End c.in-End.field-0 = note_part c.args.notes.now c.loop-at.at _ _ c.read_note.ensures c.in-End.is in it)) c.put_named.ensures.size c.put_named.ensures.writes).1 c.loop-at.invariant.room ∙ headed_size ((let it : Headed c.args.input.now c.args.used c.args.bitmaps c.args.text.now c.put_mti-written.new.out c.put_mti-written.result c.put_named-written.new.out c.put_named-written.result = record { begun = (let it : Begun c.args.input.now c.args.used c.args.bitmaps c.args.text.now c.put_mti-written.new.out c.put_mti-written.result = record { opened = (record { short = c.requires.input_len_bound; read = c.requires.input_value; room = c.requires.text_room_in_bounds }); count = c.put_mti-written.ensures.size; laid = c.put_mti-written.ensures.writes } in it); count = c.put_named-written.ensures.size; laid = c.put_named-written.ensures.writes } in it))
+shape_of-text-in-End c =
+    let begun = begun_of (opened_of c.requires.input_len_bound c.requires.input_value c.requires.text_room_in_bounds) c.put_mti-written.ensures.size c.put_mti-written.ensures.writes in
+    let headed = headed_of begun c.put_named-written.ensures.size c.put_named-written.ensures.writes in
+    let is_here : (note_at plain_form (drop c.loop-at.at c.args.notes.now)) ≡ End c.in-End.field-0 = note_part c.args.notes.now c.loop-at.at _ _ c.read_note.ensures c.in-End.is in
+    as_long _ _ _ (walked_end c.loop-at.invariant is_here c.put_named.ensures.size c.put_named.ensures.writes).1 c.loop-at.invariant.room ∙ headed_size headed
 
 pub returns-in-End : goal.returns-in-End
-returns-in-End c = let e = walked_end c.loop-at.invariant ((let it : (note_at plain_form (drop c.loop-at.at c.args.notes.now)) ≡ End c.in-End.field-0 = note_part c.args.notes.now c.loop-at.at _ _ c.read_note.ensures c.in-End.is in it)) c.put_named.ensures.size c.put_named.ensures.writes in
-    record { size = e.0; writes = e.1 ∙ headed_over ((let it : Headed c.args.input.now c.args.used c.args.bitmaps c.args.text.now c.put_mti-written.new.out c.put_mti-written.result c.put_named-written.new.out c.put_named-written.result = record { begun = (let it : Begun c.args.input.now c.args.used c.args.bitmaps c.args.text.now c.put_mti-written.new.out c.put_mti-written.result = record { opened = (record { short = c.requires.input_len_bound; read = c.requires.input_value; room = c.requires.text_room_in_bounds }); count = c.put_mti-written.ensures.size; laid = c.put_mti-written.ensures.writes } in it); count = c.put_named-written.ensures.size; laid = c.put_named-written.ensures.writes } in it)) }
+returns-in-End c =
+    let begun = begun_of (opened_of c.requires.input_len_bound c.requires.input_value c.requires.text_room_in_bounds) c.put_mti-written.ensures.size c.put_mti-written.ensures.writes in
+    let headed = headed_of begun c.put_named-written.ensures.size c.put_named-written.ensures.writes in
+    let is_here : (note_at plain_form (drop c.loop-at.at c.args.notes.now)) ≡ End c.in-End.field-0 = note_part c.args.notes.now c.loop-at.at _ _ c.read_note.ensures c.in-End.is in
+    let e = walked_end c.loop-at.invariant is_here c.put_named.ensures.size c.put_named.ensures.writes in
+    record { size = e.0; writes = e.1 ∙ headed_over headed }
 
 pub shape_of-text-in-Malformed : goal.shape_of-text-in-Malformed
-shape_of-text-in-Malformed c = absurd ((let it : ⊥ = never_malformed c.loop-at.invariant
-    (note_part c.args.notes.now c.loop-at.at _ _ c.read_note.ensures c.in-Malformed.is) in it))
+shape_of-text-in-Malformed c =
+    let none : ⊥ = never_malformed c.loop-at.invariant
+    (note_part c.args.notes.now c.loop-at.at _ _ c.read_note.ensures c.in-Malformed.is) in
+    absurd none
 
 pub returns-in-Malformed : goal.returns-in-Malformed
-returns-in-Malformed c = absurd ((let it : ⊥ = never_malformed c.loop-at.invariant
-    (note_part c.args.notes.now c.loop-at.at _ _ c.read_note.ensures c.in-Malformed.is) in it))
+returns-in-Malformed c =
+    let none : ⊥ = never_malformed c.loop-at.invariant
+    (note_part c.args.notes.now c.loop-at.at _ _ c.read_note.ensures c.in-Malformed.is) in
+    absurd none
 
 pub shape_of-text : goal.shape_of-text
-shape_of-text c = absurd ((let it : ⊥ = omega (arith, c.loop-at-test.false, walked_inside c.loop-at.invariant) in it))
+shape_of-text c =
+    let none : ⊥ = omega (arith, c.loop-at-test.false, walked_inside c.loop-at.invariant) in
+    absurd none
 
 pub returns : goal.returns
-returns c = absurd ((let it : ⊥ = omega (arith, c.loop-at-test.false, walked_inside c.loop-at.invariant) in it))
+returns c =
+    let none : ⊥ = omega (arith, c.loop-at-test.false, walked_inside c.loop-at.invariant) in
+    absurd none

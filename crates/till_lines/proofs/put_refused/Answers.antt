@@ -9,10 +9,13 @@ use Rattle.till_lines.proofs.put_refused.Goals as goal
 pub put_tripled-requires : goal.put_tripled-requires
 unfolding refused_line
 put_tripled-requires c = let n : c.args.refusal.number < 256 = omega (arith, c.wide-number.ensures.value, c.wide-number.ensures.small) in
-    let f : c.args.refusal.field < 18446744073709551616 = omega (arith) in
-    let p : c.args.refusal.position < 18446744073709551616 = omega (arith) in
+    let f : c.args.refusal.field < 18446744073709551616 = omega arith in
+    let p : c.args.refusal.position < 18446744073709551616 = omega arith in
     rw c.wide-number.ensures.value (omega (arith, refused_most c.args.refusal n f p, c.requires))
 
 pub returns : goal.returns
 unfolding refused_line
-returns c = record { size = rw (← c.wide-number.ensures.value) c.put_tripled.ensures.size; writes = rw (← c.wide-number.ensures.value) c.put_tripled.ensures.writes }
+returns c = record {
+       size = rw (← c.wide-number.ensures.value) c.put_tripled.ensures.size;
+       writes = rw (← c.wide-number.ensures.value) c.put_tripled.ensures.writes;
+     }
