@@ -25,8 +25,9 @@ def files(kind):
     return sorted(glob.glob(f"crates/*/{kind}/**/*.antt", recursive=True))
 
 
+# A file of the proof of one function lies in that function's folder.
 def is_lemma_file(path):
-    return os.path.basename(path) not in ("Proof.antt", "Invariants.antt", "Answers.antt")
+    return os.path.basename(path) not in ("Proof.antt", "Invariants.antt", "Answers.antt") or os.path.basename(os.path.dirname(path)) == "proofs"
 
 
 def snake(name):
@@ -54,6 +55,7 @@ def declared():
 def spell(name):
     if name in GIVEN:
         return GIVEN[name]
+    name = name.replace("getD", "get_or")
     if name[0].isupper():
         return name
     return snake(name).replace("-", "_")

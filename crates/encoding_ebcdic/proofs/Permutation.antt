@@ -71,14 +71,14 @@ table_permutes =
     }
 
 -- what stands at a place of a list is the same, whatever is taken to stand past its end
-get_d_inside : (s : List ℕ) (i d e : ℕ) → i < length s → get_or s i d ≡ get_or s i e
-get_d_inside [] i d e h = absurd (not-suc-le-zero h)
-get_d_inside (x ∷ s) zero d e h = refl
-get_d_inside (x ∷ s) (suc i) d e h = get_d_inside s i d e (le_of_suc-le-suc h)
+get_or_inside : (s : List ℕ) (i d e : ℕ) → i < length s → get_or s i d ≡ get_or s i e
+get_or_inside [] i d e h = absurd (not-suc-le-zero h)
+get_or_inside (x ∷ s) zero d e h = refl
+get_or_inside (x ∷ s) (suc i) d e h = get_or_inside s i d e (le_of_suc-le-suc h)
 
 pub entry_inside : (t : List ℕ) (b : ℕ) → b < length t → get_or t b 0 ≡ entry_in t b
 unfolding entry_in
-entry_inside t b h = get_d_inside t b 0 256 h
+entry_inside t b h = get_or_inside t b 0 256 h
 
 entry_means : (b : ℕ) → b < 256 → get_or table b 0 ≡ ascii_of b
 unfolding ascii_of entry_in

@@ -11,7 +11,7 @@ use Rattle.octets.specs.Numbers.{is_digit, decimal}
 use Rattle.octets.proofs.Numbers.{digits_length}
 use Rattle.field_table.specs.Table.{Table, Small}
 use Rattle.field_write.specs.Fields.{exact_fault}
-use Rattle.message_language.specs.Language.{Item, Entry, entry, Fields, none as no_fields_lem, more as more-fields, Message}
+use Rattle.message_language.specs.Language.{Item, Entry, entry, Fields, none as no_fields_lem, more as more_fields, Message}
 use Rattle.message_contents.specs.Contents.{Content, content, content_of, contents_in, numbers_of, numbers_in, number_allowed, spelt, bitmaps_with, message_with, standing, reading_of}
 use Rattle.message_contents.proofs.Items.{content_at, item}
 use Rattle.message_contents.proofs.Made.{Rising, end, next, ordered, all_fields, maps_whole, maps_count, maps_fields}
@@ -23,7 +23,7 @@ pub data Taken (t : Table) (m : ℕ) : ℕ → List Content → Type 0 where
 one_field : (t : Table) (at f w : ℕ) (fs ds c rest : List ℕ) (es : List Entry) → length ds ≡ w → Item t f ds c → Fields t (at + (w + length c)) fs rest es
     → Fields t at (f ∷ fs) (ds ++ (c ++ rest)) (entry f (at + w) (length c) ∷ es)
 one_field t at f w fs ds c rest es d i x =
-    rw (← d) (more-fields {at = at} {f = f} {fs = fs} {bs = ds ++ (c ++ rest)} {es = es} ds c rest i refl (rw d x))
+    rw (← d) (more_fields {at = at} {f = f} {fs = fs} {bs = ds ++ (c ++ rest)} {es = es} ds c rest i refl (rw d x))
 
 content_there : (pre ds c rest v : List ℕ) (at w : ℕ) → length pre ≡ at → length ds ≡ w → v ≡ pre ++ (ds ++ (c ++ rest)) → content_of v (at + w) (length c) ≡ c
 content_there pre ds c rest v at w l d e = rw (← d) (content_at pre ds c rest v at l e)

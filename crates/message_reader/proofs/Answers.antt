@@ -33,43 +33,43 @@ pub record Ends (d : Dialect) (s b : List ℕ) (r : ReadAnswer) (after : List �
   pub notes : after ≡ notes_after d s b
 
 module _ (d : Dialect) (s b : List ℕ) where
-  pub ends-short : length b < notes_room d → Ends d s b (Refused (plain notes_too_short)) b
+  pub ends_short : length b < notes_room d → Ends d s b (Refused (plain notes_too_short)) b
   unfolding read_answer notes_after
-  ends-short h =
+  ends_short h =
       let e : read_answer d s b ≡ Refused (plain notes_too_short) = rw (lt-ltb (length b) (notes_room d) h) in
       record { answer = sym e; notes = rw (notes_after, e) }
 
   module _ (room : notes_room d ≤ length b) where
-    answer-is : read_answer d s b ≡ read_message d.table d.most s
+    answer_is : read_answer d s b ≡ read_message d.table d.most s
     unfolding read_answer
-    answer-is = rw (le-ltb (length b) (notes_room d) room)
+    answer_is = rw (le-ltb (length b) (notes_room d) room)
 
     refused : (r : Refusal) → read_message d.table d.most s ≡ Refused r → Ends d s b (Refused r) b
     unfolding notes_after
     refused r h =
-        let e : read_answer d s b ≡ Refused r = answer-is ∙ h in
+        let e : read_answer d s b ≡ Refused r = answer_is ∙ h in
         record { answer = sym e; notes = rw (notes_after, e) }
 
-    pub ends-head : (r : Refusal) → head_read d.most s ≡ HeadRefused r → Ends d s b (Refused r) b
-    ends-head r h = refused r (message_head_refused d.table d.most s r h)
+    pub ends_head : (r : Refusal) → head_read d.most s ≡ HeadRefused r → Ends d s b (Refused r) b
+    ends_head r h = refused r (message_head_refused d.table d.most s r h)
 
-    pub ends-refused : (k : ℕ) (r : Refusal) → head_read d.most s ≡ Count k → read_body d.table s k ≡ FieldsRefused r → Ends d s b (Refused r) b
-    ends-refused k r h f = refused r (message_refused d.table d.most s k h r f)
+    pub ends_refused : (k : ℕ) (r : Refusal) → head_read d.most s ≡ Count k → read_body d.table s k ≡ FieldsRefused r → Ends d s b (Refused r) b
+    ends_refused k r h f = refused r (message_refused d.table d.most s k h r f)
 
     pub ends_read : (k u : ℕ) (after : List ℕ) → head_read d.most s ≡ Count k → read_body d.table s k ≡ Used u
         → after ≡ lay (notes_of d.form (reading_with d.table s k) u) b → Ends d s b (Accepted u k) after
     unfolding notes_after
     ends_read k u after h f w =
-        let e : read_answer d s b ≡ Accepted u k = answer-is ∙ message_read d.table d.most s k h u f in
+        let e : read_answer d s b ≡ Accepted u k = answer_is ∙ message_read d.table d.most s k h u f in
         record { answer = sym e; notes = rw (notes_after, e) w }
 
 -- the numbers that `read` lends stand for another table
 module _ (t u : Table) (s b : List ℕ) (same : t ≡ u) where
-  pub answer-by : (r : ReadAnswer) → r ≡ read_answer (dialect t) s b → r ≡ read_answer (dialect u) s b
-  answer-by r e = e ∙ ap (λ (x : Table). read_answer (dialect x) s b) same
+  pub answer_by_lem : (r : ReadAnswer) → r ≡ read_answer (dialect t) s b → r ≡ read_answer (dialect u) s b
+  answer_by_lem r e = e ∙ ap (λ (x : Table). read_answer (dialect x) s b) same
 
-  pub notes-by : (after : List ℕ) → after ≡ notes_after (dialect t) s b → after ≡ notes_after (dialect u) s b
-  notes-by after e = e ∙ ap (λ (x : Table). notes_after (dialect x) s b) same
+  pub notes_by : (after : List ℕ) → after ≡ notes_after (dialect t) s b → after ≡ notes_after (dialect u) s b
+  notes_by after e = e ∙ ap (λ (x : Table). notes_after (dialect x) s b) same
 
-  pub tells-by : (r : ReadAnswer) → r ≡ read_answer (dialect t) s b → told_read r ≡ told_read (read_answer (dialect u) s b)
-  tells-by r e = ap told_read (answer-by r e)
+  pub tells_by : (r : ReadAnswer) → r ≡ read_answer (dialect t) s b → told_read r ≡ told_read (read_answer (dialect u) s b)
+  tells_by r e = ap told_read (answer_by_lem r e)

@@ -152,7 +152,7 @@ lead_all p (x ∷ s) =
     (λ t. rw t (eqb-suc-suc (lead p s) (length s) ∙ lead_all p s))
     (λ t. rw t (ne_eqb 0 (suc (length s)) (λ (e : 0 ≡ suc (length s)). omega arith)))
 
-pub get_d_map : (f : ℕ → ℕ) (s : List ℕ) (i : ℕ) → i < length s → f (get_or s i 0) ≡ get_or (map f s) i 0
-get_d_map f [] i h = absurd (not-suc-le-zero h)
-get_d_map f (x ∷ s) zero h = refl
-get_d_map f (x ∷ s) (suc i) h = get_d_map f s i (le_of_suc-le-suc h)
+pub get_or_map : (f : ℕ → ℕ) (s : List ℕ) (i : ℕ) → i < length s → f (get_or s i 0) ≡ get_or (map f s) i 0
+get_or_map f [] i h = absurd (not-suc-le-zero h)
+get_or_map f (x ∷ s) zero h = refl
+get_or_map f (x ∷ s) (suc i) h = get_or_map f s i (le_of_suc-le-suc h)

@@ -11,7 +11,7 @@ use Rattle.octets.specs.Numbers.{is_digit, decimal}
 use Rattle.octets.proofs.Numbers.{digits_length}
 use Rattle.field_table.specs.Table.{Table}
 use Rattle.bitmap.specs.Bitmaps.{count_of, fields_of}
-use Rattle.message_language.specs.Language.{Item, Entry, entry, Fields, none as no_fields_lem, more as more-fields, Reading, Message}
+use Rattle.message_language.specs.Language.{Item, Entry, entry, Fields, none as no_fields_lem, more as more_fields, Reading, Message}
 use Rattle.message_contents.specs.Contents.{Content, content, content_of, contents_in, numbers_in, spelt, standing, reading_of}
 use Rattle.message_contents.proofs.Items.{content_at, digits_are}
 use Rattle.packed_field.specs.Items.{is_numeric}
@@ -21,7 +21,7 @@ use Rattle.packed_language.specs.Packed.{AllAllowed, none, more, AllDigits, Part
 one_field : (t : Table) (at f w : ℕ) (fs ds c rest : List ℕ) (es : List Entry) → length ds ≡ w → Item t f ds c → Fields t (at + (w + length c)) fs rest es
     → Fields t at (f ∷ fs) (ds ++ (c ++ rest)) (entry f (at + w) (length c) ∷ es)
 one_field t at f w fs ds c rest es d i x =
-    rw (← d) (more-fields {at = at} {f = f} {fs = fs} {bs = ds ++ (c ++ rest)} {es = es} ds c rest i refl (rw d x))
+    rw (← d) (more_fields {at = at} {f = f} {fs = fs} {bs = ds ++ (c ++ rest)} {es = es} ds c rest i refl (rw d x))
 
 fields_of_lem : (t : Table) {cs : List Content} → AllAllowed t cs → (at : ℕ) → Fields t at (numbers_in cs) (spelt t cs) (standing t at cs)
 unfolding numbers_in spelt standing
@@ -96,7 +96,7 @@ said_more t f fs ds c rest d cs i is g y =
 said : (t : Table) {at : ℕ} {fs bs : List ℕ} {es : List Entry} → Fields t at fs bs es → (pre post v : List ℕ) → length pre ≡ at → v ≡ pre ++ (bs ++ post) → AllDigits t (contents_in v es) → Said t fs bs (contents_in v es)
 unfolding contents_in numbers_in spelt AllDigits
 said t no_fields_lem pre post v l e g = record { numbers = refl; bytes = refl; allowed = none }
-said t {at} (more-fields {f = f} {fs = fs} {es = es} ds c rest i b x) pre post v l e g =
+said t {at} (more_fields {f = f} {fs = fs} {es = es} ds c rest i b x) pre post v l e g =
     let j : v ≡ pre ++ (ds ++ (c ++ (rest ++ post))) = e ∙ rw b (simp append_assoc) in
     let q : length (pre ++ (ds ++ c)) ≡ at + (length ds + length c) = omega (arith, length-append pre (ds ++ c), length-append ds c, l) in
     let h : content_of v (at + length ds) (length c) ≡ c = content_at pre ds c (rest ++ post) v at l j in
@@ -111,7 +111,7 @@ stood_more t at f ds c d cs es w is e = rw (is, ← w, e)
 stood : (t : Table) {at : ℕ} {fs bs : List ℕ} {es : List Entry} → Fields t at fs bs es → (pre post v : List ℕ) → length pre ≡ at → v ≡ pre ++ (bs ++ post) → standing t at (contents_in v es) ≡ es
 unfolding contents_in standing
 stood t no_fields_lem pre post v l e = refl
-stood t {at} (more-fields {f = f} {fs = fs} {es = es} ds c rest i b x) pre post v l e =
+stood t {at} (more_fields {f = f} {fs = fs} {es = es} ds c rest i b x) pre post v l e =
     let j : v ≡ pre ++ (ds ++ (c ++ (rest ++ post))) = e ∙ rw b (simp append_assoc) in
     let q : length (pre ++ (ds ++ c)) ≡ at + (length ds + length c) = omega (arith, length-append pre (ds ++ c), length-append ds c, l) in
     let h : content_of v (at + length ds) (length c) ≡ c = content_at pre ds c (rest ++ post) v at l j in

@@ -32,30 +32,30 @@ module _ (S : Script) (t : Table) (m : ℕ) (s out : List ℕ) where
   unfolding link_answer
   bad r e = refused r (rw (link_answer, e))
 
-  pub ends-head : (r : Refusal) → link_head S m s ≡ HeadRefused r → Ends S t m s out (Refused r) out
+  pub ends_head : (r : Refusal) → link_head S m s ≡ HeadRefused r → Ends S t m s out (Refused r) out
   unfolding link_judged
-  ends-head r e = bad r (rw (link_judged, e))
+  ends_head r e = bad r (rw (link_judged, e))
 
   module _ (k : ℕ) (head : link_head S m s ≡ Count k) where
     judged : link_judged S t m s ≡ body_judged S t s k
     unfolding link_judged
     judged = rw (link_judged, head)
 
-    pub ends-refused : (r : Refusal) → body_judged S t s k ≡ JudgedBad r → Ends S t m s out (Refused r) out
-    ends-refused r e = bad r (judged ∙ e)
+    pub ends_refused : (r : Refusal) → body_judged S t s k ≡ JudgedBad r → Ends S t m s out (Refused r) out
+    ends_refused r e = bad r (judged ∙ e)
 
     module _ (u w : ℕ) (good : body_judged S t s k ≡ Good u w) where
-      pub ends-short : length out < w → Ends S t m s out (Refused (plain output_too_short)) out
+      pub ends_short : length out < w → Ends S t m s out (Refused (plain output_too_short)) out
       unfolding link_answer
-      ends-short h = refused (plain output_too_short) (rw (link_answer, judged ∙ good, lt-leb w (length out) h))
+      ends_short h = refused (plain output_too_short) (rw (link_answer, judged ∙ good, lt-leb w (length out) h))
 
       done : w ≤ length out → link_answer S t m s out ≡ Done u w
       unfolding link_answer
       done h = rw (link_answer, judged ∙ good, le-leb w (length out) h)
 
-      pub ends-done : w ≤ length out → (after : List ℕ) → after ≡ lay (body_carried S t s k) out → Ends S t m s out (Done u w) after
+      pub ends_done : w ≤ length out → (after : List ℕ) → after ≡ lay (body_carried S t s k) out → Ends S t m s out (Done u w) after
       unfolding link_output link_carried
-      ends-done h after e = record { answer = sym (done h); output = e ∙ sym (rw (link_output, done h, link_carried, head)) }
+      ends_done h after e = record { answer = sym (done h); output = e ∙ sym (rw (link_output, done h, link_carried, head)) }
 
 -- the fields that the code has listed are those of the bitmaps
 module _ (S : Script) (t : Table) (s fs : List ℕ) (k : ℕ) (is : fs ≡ fields_of (maps_of (size_of S 4) s k) k) where
@@ -69,11 +69,11 @@ module _ (S : Script) (t : Table) (s fs : List ℕ) (k : ℕ) (is : fs ≡ field
 
 -- the numbers that are lent stand for another table
 module _ (S : Script) (t u : Table) (m : ℕ) (s out : List ℕ) (same : t ≡ u) where
-  pub answer-by : (r : Translated) → r ≡ link_answer S t m s out → r ≡ link_answer S u m s out
-  answer-by r e = e ∙ ap (λ (x : Table). link_answer S x m s out) same
+  pub answer_by_lem : (r : Translated) → r ≡ link_answer S t m s out → r ≡ link_answer S u m s out
+  answer_by_lem r e = e ∙ ap (λ (x : Table). link_answer S x m s out) same
 
-  pub tells-by : (r : Translated) → r ≡ link_answer S t m s out → told_link r ≡ told_link (link_answer S u m s out)
-  tells-by r e = ap told_link (answer-by r e)
+  pub tells_by : (r : Translated) → r ≡ link_answer S t m s out → told_link r ≡ told_link (link_answer S u m s out)
+  tells_by r e = ap told_link (answer_by_lem r e)
 
-  pub output-by : (after : List ℕ) → after ≡ link_output S t m s out → after ≡ link_output S u m s out
-  output-by after e = e ∙ ap (λ (x : Table). link_output S x m s out) same
+  pub output_by_lem : (after : List ℕ) → after ≡ link_output S t m s out → after ≡ link_output S u m s out
+  output_by_lem after e = e ∙ ap (λ (x : Table). link_output S x m s out) same

@@ -9,7 +9,7 @@ use lib.ListN.{length, take, drop}
 use lib.Seq.{length-take-le}
 use borrow.Author.Tests.{lt-ltb, le-ltb, eq-eqb}
 use Rattle.octets.specs.Lists.{between, either, all, lead}
-use Rattle.octets.specs.Numbers.{is_digit, is_ascii, are_digits, digits, number}
+use Rattle.octets.specs.Numbers.{is_digit, is_ascii, are_digits, number}
 use Rattle.octets.proofs.Cases.{by_bool, by_lt, both_right, false_true}
 use Rattle.octets.proofs.Lists.{all_weaker}
 use Rattle.refusal.specs.Numbers.{message_too_short, bitmap_incomplete, past_the_end, length_not_digits, length_over_table, text_not_ascii, output_too_short, not_digits, bitmap_over_most}

@@ -16,7 +16,7 @@ use Rattle.message_contents.proofs.Items.{item_exact, item_bytes, content_at}
 use Rattle.message_contents.proofs.Made.{Rising, next}
 use Rattle.message_walk.specs.Faults.{within}
 use Rattle.message_walk.proofs.Within.{inside_passes}
-use Rattle.message_walk.proofs.Written.{Walkable, none as Walked-none, more as Walked-more}
+use Rattle.message_walk.proofs.Written.{Walkable, none as walked_none, more as walked_more}
 
 -- what the fields of a message are, in an input v
 pub record Back (t : Table) (v : List ℕ) (m last : ℕ) (fs bs : List ℕ) (es : List Entry) : Type 0 where
@@ -26,7 +26,7 @@ pub record Back (t : Table) (v : List ℕ) (m last : ℕ) (fs bs : List ℕ) (es
 
 back_none : (t : Table) (v : List ℕ) (m last : ℕ) → Back t v m last [] [] []
 unfolding spelt numbers_in contents_in
-back_none t v m last = record { walk = Walked-none; body = refl; numbers = refl }
+back_none t v m last = record { walk = walked_none; body = refl; numbers = refl }
 
 -- where they stand at the place at, behind pre and before post
 back_more : (t : Table) (v : List ℕ) (m last at f : ℕ) (fs ds c rest pre post : List ℕ) (es : List Entry) → number_allowed m last f ≡ true → Item t f ds c
@@ -41,7 +41,7 @@ back_more t v m last at f fs ds c rest pre post es al i l e b =
     ap length e ∙ omega (arith, length-append pre (ds ++ (c ++ (rest ++ post))), length-append ds (c ++ (rest ++ post)), length-append c (rest ++ post), l) in
     record {
       walk =
-          Walked-more {f = f} {a = at + length ds} {n = length c}
+          walked_more {f = f} {a = at + length ds} {n = length c}
           (record { allowed = al; ruled = inside_passes v (exact_fault t) (entry f (at + length ds) (length c)) (omega (arith, long)) (rw k x) })
           b.walk;
       body =

@@ -21,7 +21,7 @@ use Rattle.message_walk.specs.Faults.{any, within}
 use Rattle.message_walk.proofs.Heads.{Head, ended_head, good_head}
 use Rattle.message_walk.proofs.Weaker.{weaker_entries}
 use Rattle.message_walk.proofs.Within.{is_inside, within_weaker}
-use Rattle.message_walk.proofs.Written.{Walkable, entries_walkable, none as Walked-none, more as Walked-more}
+use Rattle.message_walk.proofs.Written.{Walkable, entries_walkable, none as walked_none, more as walked_more}
 use Rattle.message_write.specs.Written.{exactly, cleanly, exact_message, clean_message, message_of, answered, laid_out, exact_answer, exact_output, clean_answer, clean_output}
 use Rattle.message_write.proofs.Answered.{Answered, written_answered, answered_laid}
 use Rattle.round_trip.specs.RoundTrip.{contents_named, ReadsAs, WritesMessages}
@@ -39,13 +39,13 @@ clean_inside d v e h = within_weaker v (clean_fault d.table) any (λ f c z. refl
 module _ (t : Table) (v : List ℕ) (m : ℕ) where
   exact_taken : {last : ℕ} {es : List Entry} → Walkable (within v (exact_fault t)) m last es → Taken t m last (contents_in v es)
   unfolding contents_in
-  exact_taken Walked-none = none
-  exact_taken (Walked-more {f = f} {a = a} {n = n} g w) = more g.allowed (is_inside v (exact_fault t) (entry f a n) g.ruled).fault (exact_taken w)
+  exact_taken walked_none = none
+  exact_taken (walked_more {f = f} {a = a} {n = n} g w) = more g.allowed (is_inside v (exact_fault t) (entry f a n) g.ruled).fault (exact_taken w)
 
   clean_taken : {last : ℕ} {es : List Entry} → Walkable (within v (clean_fault t)) m last es → Taken t m last (cleaned_in t (contents_in v es))
   unfolding contents_in cleaned_in
-  clean_taken Walked-none = none
-  clean_taken (Walked-more {f = f} {a = a} {n = n} g w) =
+  clean_taken walked_none = none
+  clean_taken (walked_more {f = f} {a = a} {n = n} g w) =
       more g.allowed (cleaned_exact t f (content_of v a n) (is_inside v (clean_fault t) (entry f a n) g.ruled).fault) (clean_taken w)
 
 -- A writer whose walk asks p of a field answers u and leaves o: it was to write the message of the fields cs, which the exact writer takes.

@@ -1,9 +1,7 @@
 -- What is looked through from the front is what is still to come (Finding), in a loop that reads notes (Loops of message_walk).
 use native.Mathlib.Omega.{arith}
-use Rattle.message_notes.specs.Dialect.{plain_form}
-use Rattle.message_walk.specs.Walk.{listed_in}
-use Rattle.message_walk.proofs.Loops.{reading_first, Read, read_malformed, read_end, read_room, read_here, read_next, read_of}
-use Rattle.message_lookup.proofs.Finding.{Finding, finding_first, finding_none, finding_here, finding_next}
+use Rattle.message_walk.proofs.Loops.{reading_first, read_malformed, read_end, read_room, read_here, read_next, read_of}
+use Rattle.message_lookup.proofs.Finding.{finding_first, finding_none, finding_here, finding_next}
 use Rattle.message_lookup.proofs.find.Goals as goal
 
 pub loop-at-init : goal.loop-at-init

@@ -23,7 +23,7 @@ slice_bounds-read_listed-end c = sym (length-take-le _ _ (list_few _ _ _ _ refl 
 
 pub read_listed-requires : goal.read_listed-requires
 read_listed-requires c = record {
-       message_value = c.requires.message_value;
-       fields_value = list_is _ _ _ _ _ (head_few _ _ _ c.requires.message_value (omega arith)) c.list_fields-list.ensures.count c.list_fields-list.ensures.numbers;
-       table_in_bounds = c.requires.table_in_bounds;
-     }
+  message_value = c.requires.message_value;
+  fields_value = list_is _ _ _ _ _ (head_few _ _ _ c.requires.message_value (omega arith)) c.list_fields-list.ensures.count c.list_fields-list.ensures.numbers;
+  table_in_bounds = c.requires.table_in_bounds;
+}

@@ -11,9 +11,9 @@ shape_of-notes-in-Refused c = c.loop-i.invariant.written.size
 
 pub returns-in-Refused : goal.returns-in-Refused
 returns-in-Refused c = let r = noted_refused c.loop-i.invariant (noted_met c.loop-i.invariant c.loop-i-test.true c.wide-field.ensures.value c.place_field.ensures) c.in-Refused.is in record {
-       size = r.0;
-       writes = r.1;
-     }
+  size = r.0;
+  writes = r.1;
+}
 
 pub overflow_add-at : goal.overflow_add-at
 overflow_add-at c = omega (arith, noted_within c.loop-i.invariant (noted_met c.loop-i.invariant c.loop-i-test.true c.wide-field.ensures.value c.place_field.ensures) c.in-Content.is)

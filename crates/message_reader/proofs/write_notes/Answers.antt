@@ -30,57 +30,57 @@ overflow_add-bitmaps c = omega (arith, c.requires.bitmaps_bound)
 pub write_fields-written-requires : goal.write_fields-written-requires
 write_fields-written-requires c = let t = decoded c.args.table.now in
     record {
-          start_in_bounds = c.requires.bitmaps_in_bounds;
-          fields_in_bounds = omega (arith, listed_few (dialect t) _ _ (omega arith) c.requires.bitmaps_bound _ c.requires.fields_value, c.write_fields-arg-1.given, c.notes-1.given, c.requires.table_in_bounds);
-          by_index = (_, body_is t _ _ _ c.requires.fields_value ∙ c.requires.bitmaps_value);
-        }
+      start_in_bounds = c.requires.bitmaps_in_bounds;
+      fields_in_bounds = omega (arith, listed_few (dialect t) _ _ (omega arith) c.requires.bitmaps_bound _ c.requires.fields_value, c.write_fields-arg-1.given, c.notes-1.given, c.requires.table_in_bounds);
+      by_index = (_, body_is t _ _ _ c.requires.fields_value ∙ c.requires.bitmaps_value);
+    }
 
 pub overflow_add-end : goal.overflow_add-end
 overflow_add-end c =
     let few :
-        c.write_fields-written.result ≤ note_size plain_form * (64 * (dialect (decoded c.args.table.now)).most - 2) =
-        let t = decoded c.args.table.now in
-      omega (arith, c.write_fields-written.ensures.size, ap (λ (es : List Entry). length (field_notes plain_form es)) (entries_are t _ _ _ c.requires.fields_value), notes_few (dialect t) c.args.message.now c.args.bitmaps (omega arith) c.requires.bitmaps_bound) in
+    c.write_fields-written.result ≤ note_size plain_form * (64 * (dialect (decoded c.args.table.now)).most - 2) =
+    let t = decoded c.args.table.now in
+    omega (arith, c.write_fields-written.ensures.size, ap (λ (es : List Entry). length (field_notes plain_form es)) (entries_are t _ _ _ c.requires.fields_value), notes_few (dialect t) c.args.message.now c.args.bitmaps (omega arith) c.requires.bitmaps_bound) in
     omega (
-  arith,
-  few,
-)
+      arith,
+      few,
+    )
 
 pub slice_bounds-put_end-count : goal.slice_bounds-put_end-count
 slice_bounds-put_end-count c =
     let few :
-        c.write_fields-written.result ≤ note_size plain_form * (64 * (dialect (decoded c.args.table.now)).most - 2) =
-        let t = decoded c.args.table.now in
-      omega (arith, c.write_fields-written.ensures.size, ap (λ (es : List Entry). length (field_notes plain_form es)) (entries_are t _ _ _ c.requires.fields_value), notes_few (dialect t) c.args.message.now c.args.bitmaps (omega arith) c.requires.bitmaps_bound) in
+    c.write_fields-written.result ≤ note_size plain_form * (64 * (dialect (decoded c.args.table.now)).most - 2) =
+    let t = decoded c.args.table.now in
+    omega (arith, c.write_fields-written.ensures.size, ap (λ (es : List Entry). length (field_notes plain_form es)) (entries_are t _ _ _ c.requires.fields_value), notes_few (dialect t) c.args.message.now c.args.bitmaps (omega arith) c.requires.bitmaps_bound) in
     omega (
-  arith,
-  few,
-  c.notes-2-1.given,
-  c.notes-1.given,
-  c.requires.table_in_bounds,
-)
+      arith,
+      few,
+      c.notes-2-1.given,
+      c.notes-1.given,
+      c.requires.table_in_bounds,
+    )
 
 pub slice_bounds-put_end-start : goal.slice_bounds-put_end-start
 slice_bounds-put_end-start c =
     let few :
-        c.write_fields-written.result ≤ note_size plain_form * (64 * (dialect (decoded c.args.table.now)).most - 2) =
-        let t = decoded c.args.table.now in
-      omega (arith, c.write_fields-written.ensures.size, ap (λ (es : List Entry). length (field_notes plain_form es)) (entries_are t _ _ _ c.requires.fields_value), notes_few (dialect t) c.args.message.now c.args.bitmaps (omega arith) c.requires.bitmaps_bound) in
+    c.write_fields-written.result ≤ note_size plain_form * (64 * (dialect (decoded c.args.table.now)).most - 2) =
+    let t = decoded c.args.table.now in
+    omega (arith, c.write_fields-written.ensures.size, ap (λ (es : List Entry). length (field_notes plain_form es)) (entries_are t _ _ _ c.requires.fields_value), notes_few (dialect t) c.args.message.now c.args.bitmaps (omega arith) c.requires.bitmaps_bound) in
     omega (
-  arith,
-  few,
-  c.notes-2-1.given,
-  c.notes-1.given,
-  c.requires.table_in_bounds,
-)
+      arith,
+      few,
+      c.notes-2-1.given,
+      c.notes-1.given,
+      c.requires.table_in_bounds,
+    )
 
 pub returns : goal.returns
 unfolding notes_of reading_with
 returns c =
     let few :
-        c.write_fields-written.result ≤ note_size plain_form * (64 * (dialect (decoded c.args.table.now)).most - 2) =
-        let t = decoded c.args.table.now in
-          omega (arith, c.write_fields-written.ensures.size, ap (λ (es : List Entry). length (field_notes plain_form es)) (entries_are t _ _ _ c.requires.fields_value), notes_few (dialect t) c.args.message.now c.args.bitmaps (omega arith) c.requires.bitmaps_bound) in
+    c.write_fields-written.result ≤ note_size plain_form * (64 * (dialect (decoded c.args.table.now)).most - 2) =
+    let t = decoded c.args.table.now in
+    omega (arith, c.write_fields-written.ensures.size, ap (λ (es : List Entry). length (field_notes plain_form es)) (entries_are t _ _ _ c.requires.fields_value), notes_few (dialect t) c.args.message.now c.args.bitmaps (omega arith) c.requires.bitmaps_bound) in
     let t = decoded c.args.table.now in
     let h = head_note (take 4 c.args.message.now) c.args.bitmaps in
     let n = field_notes plain_form (entries_of t (4 + 8 * c.args.bitmaps) c.args.fields.now (drop (4 + 8 * c.args.bitmaps) c.args.message.now)) in

@@ -10,9 +10,9 @@ use Rattle.message_walk.proofs.walk.Goals as goal
 pub returns-then-fault-ne0 : goal.returns-then-fault-ne0
 returns-then-fault-ne0 c = let a = (within c.args.values.now any) in
     record {
-          end = c.refused_at.ensures.end ∙ walk_head (dialect house) a _ _ c.head_fault-fault.ensures c.if-fault-ne0.true;
-          fields = c.refused_at.ensures.fields ∙ none_named (dialect house) a _ _ c.head_fault-fault.ensures c.if-fault-ne0.true;
-        }
+      end = c.refused_at.ensures.end ∙ walk_head (dialect house) a _ _ c.head_fault-fault.ensures c.if-fault-ne0.true;
+      fields = c.refused_at.ensures.fields ∙ none_named (dialect house) a _ _ c.head_fault-fault.ensures c.if-fault-ne0.true;
+    }
 
 pub walk_fields-requires : goal.walk_fields-requires
 walk_fields-requires c = head_long 3 _ _ c.head_fault-fault.ensures c.if-fault-ne0.false
@@ -20,6 +20,6 @@ walk_fields-requires c = head_long 3 _ _ c.head_fault-fault.ensures c.if-fault-n
 pub returns : goal.returns
 returns c = let a = (within c.args.values.now any) in
     record {
-          end = walk_ended (dialect house) a _ _ c.head_fault-fault.ensures _ c.if-fault-ne0.false c.walk_fields.ensures.end;
-          fields = all_named (dialect house) a _ _ c.head_fault-fault.ensures _ _ c.if-fault-ne0.false c.walk_fields.ensures.end c.walk_fields.ensures.fields;
-        }
+      end = walk_ended (dialect house) a _ _ c.head_fault-fault.ensures _ c.if-fault-ne0.false c.walk_fields.ensures.end;
+      fields = all_named (dialect house) a _ _ c.head_fault-fault.ensures _ _ c.if-fault-ne0.false c.walk_fields.ensures.end c.walk_fields.ensures.fields;
+    }

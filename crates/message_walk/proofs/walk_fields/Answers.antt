@@ -1,15 +1,10 @@
 -- The walk ends as the rest of it does from where the loop has come to, and the set holds what was passed so far (Loops, Naming).
 use mathlib.Core.Path.{◌∙◌}
-use lib.ListN.{length, drop}
 use native.Mathlib.Omega.{arith}
-use Rattle.field_table.specs.House.{house}
-use Rattle.message_notes.specs.Dialect.{plain_form, head_size, dialect}
-use Rattle.message_notes.specs.Notes.{count_in}
-use Rattle.message_walk.specs.Walk.{ending, entries_in, fields_on}
-use Rattle.message_walk.specs.Faults.{any, within}
+use Rattle.message_walk.specs.Walk.{entries_in, fields_on}
 use Rattle.message_walk.proofs.Ends.{counted, refused_none}
-use Rattle.message_walk.proofs.Loops.{walking_first, Turn, turn_refused, turn_end, turn_done, turn_room, turn_here, turn_next, turn_of}
-use Rattle.message_walk.proofs.Naming.{Naming, naming_first, naming_next, naming_done, numbers_are, entries_good}
+use Rattle.message_walk.proofs.Loops.{walking_first, turn_refused, turn_end, turn_done, turn_room, turn_here, turn_next, turn_of}
+use Rattle.message_walk.proofs.Naming.{naming_first, naming_next, naming_done, numbers_are, entries_good}
 use Rattle.message_walk.proofs.walk_fields.Goals as goal
 
 pub loop-at-init : goal.loop-at-init
@@ -20,9 +15,9 @@ pub returns-in-Refused : goal.returns-in-Refused
 returns-in-Refused c =
     let turn = turn_of c.loop-at.invariant (counted _ _ _ _ _ _ _ c.judge_place.ensures c.count_in-count.ensures) in
     record {
-          end = c.refused_at.ensures.end ∙ turn_refused turn c.in-Refused.is;
-          fields = c.refused_at.ensures.fields ∙ refused_none _ _ _ c.refused_at.ensures.end;
-        }
+      end = c.refused_at.ensures.end ∙ turn_refused turn c.in-Refused.is;
+      fields = c.refused_at.ensures.fields ∙ refused_none _ _ _ c.refused_at.ensures.end;
+    }
 
 pub returns-in-End : goal.returns-in-End
 unfolding fields_on

@@ -1,12 +1,8 @@
 -- What is written so far and what is still to come make the whole, and every content to come is one that may be written (Writing).
 use native.Mathlib.Omega.{arith}
-use Rattle.field_table.specs.Codes.{decoded}
 use Rattle.field_table.proofs.Decoded.{decoded_bounded}
-use Rattle.message_notes.specs.Dialect.{plain_form}
-use Rattle.message_notes.specs.Notes.{count_in}
-use Rattle.message_walk.specs.Walk.{listed_in}
-use Rattle.message_walk.proofs.Loops.{reading_first, Read, read_malformed, read_end, read_room, read_here, read_next, read_of}
-use Rattle.message_write.proofs.Writing.{cleared, Writing, writing_first, writing_done, writing_taken, writing_fits, writing_more}
+use Rattle.message_walk.proofs.Loops.{reading_first, read_malformed, read_end, read_room, read_here, read_next, read_of}
+use Rattle.message_write.proofs.Writing.{cleared, writing_first, writing_done, writing_taken, writing_fits, writing_more}
 use Rattle.message_write.proofs.write_body.Goals as goal
 
 pub loop-at-init : goal.loop-at-init

@@ -5,8 +5,8 @@ use Rattle.message_write.proofs.write_clean.Goals as goal
 
 pub returns : goal.returns
 returns c = record {
-       answers = search (clean_answer_lem, rules);
-       tells = search (clean_told, rules);
-       padded = search (clean_padded_lem, rules);
-       writes = search (clean_output_lem, rules);
-     }
+  answers = search (clean_answer_lem, rules);
+  tells = search (clean_told, rules);
+  padded = search (clean_padded_lem, rules);
+  writes = search (clean_output_lem, rules);
+}

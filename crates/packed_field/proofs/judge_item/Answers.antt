@@ -2,8 +2,6 @@
 use Rattle.packed_field.proofs.Ends.{judge_refused, judge_bad, judge_good}
 use Rattle.packed_field.proofs.Found.{placed_within}
 use native.Mathlib.Omega.{arith}
-use Prim.Native.Nat.{◌+◌, ◌≤◌}
-use lib.ListN.{length}
 use borrow.Author.Rules.{rules}
 use Rattle.packed_field.proofs.judge_item.Goals as goal
 

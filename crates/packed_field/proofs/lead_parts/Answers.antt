@@ -1,11 +1,6 @@
 -- The front that passes is i bytes and the front of what is left from i on.
-use mathlib.Core.Path.{◌≡◌}
-use Prim.Native.Nat.{◌+◌, ◌≤◌, ◌-◌}
-use lib.ListN.{length, drop}
-use Rattle.octets.specs.Lists.{lead}
 use Rattle.octets.proofs.Cases.{tested_true, tested_false}
 use Rattle.octets.proofs.Lists.{lead_next, lead_stops, lead_ends}
-use Rattle.packed_field.specs.Scripts.{is_part}
 use borrow.Author.Rules.{rules}
 use Rattle.packed_field.proofs.lead_parts.Goals as goal
 

@@ -1,6 +1,5 @@
 -- What the table has for the field, handed on.
 use Rattle.packed_field.proofs.Ends.{most_small, placed_by}
-use borrow.Author.Rules.{rules}
 use Rattle.packed_field.proofs.place_item.Goals as goal
 
 pub place_by-requires : goal.place_by-requires

@@ -1,12 +1,8 @@
 -- The length digits are laid first, then the content behind them (Items).
-use Prim.Native.Nat.{◌+◌, ◌-◌}
-use mathlib.Core.Path.{◌≡◌, sym}
+use mathlib.Core.Path.{sym}
 use native.Mathlib.Omega.{arith}
 use lib.Seq.{length-take-le}
-use Rattle.packed_field.specs.Scripts.{other}
-use Rattle.packed_field.specs.Items.{content_size}
 use Rattle.packed_link.proofs.Items.{item_within, first_left, content_asked, item_carried_lem}
-use borrow.Author.Rules.{rules}
 use Rattle.packed_link.proofs.carry_item.Goals as goal
 
 pub slice_bounds-carry-end : goal.slice_bounds-carry-end
@@ -19,17 +15,37 @@ pub slice_bounds-carry_content-end : goal.slice_bounds-carry_content-end
 slice_bounds-carry_content-end c = omega (arith, item_within _ _ _ _ _ _ _ _ c.requires.1.0)
 
 pub slice_bounds-carry_content-count-2 : goal.slice_bounds-carry_content-count-2
-slice_bounds-carry_content-count-2 c = omega (arith, (first_left _ _ _ _ _ _ _ _ c.requires.1.0 _ _ _ _ c.width_in-width.ensures.value
-    c.other_script.ensures c.size_of-first.ensures c.class_in-class.ensures), c.requires.1.1, c.out-1.given)
+slice_bounds-carry_content-count-2 c = omega (
+  arith,
+  (first_left _ _ _ _ _ _ _ _ c.requires.1.0 _ _ _ _ c.width_in-width.ensures.value
+      c.other_script.ensures c.size_of-first.ensures c.class_in-class.ensures),
+  c.requires.1.1,
+  c.out-1.given,
+)
 
 pub slice_bounds-carry_content-start-2 : goal.slice_bounds-carry_content-start-2
-slice_bounds-carry_content-start-2 c = omega (arith, (first_left _ _ _ _ _ _ _ _ c.requires.1.0 _ _ _ _ c.width_in-width.ensures.value
-    c.other_script.ensures c.size_of-first.ensures c.class_in-class.ensures), c.requires.1.1, c.out-1.given)
+slice_bounds-carry_content-start-2 c = omega (
+  arith,
+  (first_left _ _ _ _ _ _ _ _ c.requires.1.0 _ _ _ _ c.width_in-width.ensures.value
+      c.other_script.ensures c.size_of-first.ensures c.class_in-class.ensures),
+  c.requires.1.1,
+  c.out-1.given,
+)
 
 pub carry_content-requires : goal.carry_content-requires
 carry_content-requires c = let q = content_asked _ _ _ _ _ _ _ _ c.requires.1.0 _ c.class_in-class.ensures in
-    record { content_value = q.0; content_len = q.1; count_in_bounds = omega (arith, (first_left _ _ _ _ _ _ _ _ c.requires.1.0 _ _ _ _ c.width_in-width.ensures.value
-    c.other_script.ensures c.size_of-first.ensures c.class_in-class.ensures), c.requires.1.1, c.out-1.given, c.carry_content-arg-2-1.given) }
+    record {
+      content_value = q.0;
+      content_len = q.1;
+      count_in_bounds = omega (
+        arith,
+        (first_left _ _ _ _ _ _ _ _ c.requires.1.0 _ _ _ _ c.width_in-width.ensures.value
+            c.other_script.ensures c.size_of-first.ensures c.class_in-class.ensures),
+        c.requires.1.1,
+        c.out-1.given,
+        c.carry_content-arg-2-1.given,
+      );
+    }
 
 pub returns : goal.returns
 returns c = item_carried_lem _ _ _ _ _ _ _ _ c.requires.1.0 _ _ _ _ _ _ _ c.requires.1.1 c.width_in-width.ensures.value

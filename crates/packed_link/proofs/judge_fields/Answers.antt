@@ -1,10 +1,7 @@
 -- Judging from the start is judging what is left from the place and the field that the loop has come to (Turns).
-use Prim.Native.Nat.{◌-◌}
-use lib.ListN.{length}
 use native.Mathlib.Omega.{arith}
 use Rattle.packed_link.specs.Link.{fields_judged}
-use Rattle.packed_link.proofs.Turns.{Met, met, Scanned, scan_first, scan_refused, scan_within, scan_small, scan_good, scan_end}
-use borrow.Author.Rules.{rules}
+use Rattle.packed_link.proofs.Turns.{met, scan_first, scan_refused, scan_within, scan_small, scan_good, scan_end}
 use Rattle.packed_link.proofs.judge_fields.Goals as goal
 
 pub loop-i-init : goal.loop-i-init

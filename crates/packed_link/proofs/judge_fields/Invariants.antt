@@ -1,9 +1,6 @@
 use Prim.Native.Nat.{◌-◌}
 use lib.ListN.{length}
-use native.Mathlib.Omega.{arith}
-use Rattle.packed_link.specs.Link.{fields_judged}
-use Rattle.packed_link.proofs.Turns.{Met, met, Scanned, scan_first, scan_refused, scan_within, scan_small, scan_good, scan_end}
-use borrow.Author.Rules.{rules}
+use Rattle.packed_link.proofs.Turns.{Scanned}
 use Rattle.packed_link.proofs.judge_fields.Given as goal
 
 abbrev pub invariant-loop-i : goal.invariant-loop-i

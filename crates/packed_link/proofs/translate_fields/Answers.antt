@@ -1,13 +1,11 @@
 -- The fields of the bitmaps are listed, then judged and written.
-use Prim.Native.Nat.{ℕ, ◌-◌, ◌≤◌}
-use lib.ListN.{length}
+use Prim.Native.Nat.{ℕ}
 use mathlib.Core.Path.{refl, sym, ap, ◌∙◌}
 use native.Mathlib.Omega.{arith}
 use lib.Seq.{length-take-le}
 use Rattle.bitmap.specs.Bitmaps.{fields_of}
 use Rattle.bitmap_read.specs.Found.{maps_of}
 use Rattle.packed_link.proofs.Heads.{mti_small, head_few, head_room, list_is, list_few}
-use borrow.Author.Rules.{rules}
 use Rattle.packed_link.proofs.translate_fields.Goals as goal
 
 pub overflow_mul-end : goal.overflow_mul-end
@@ -27,6 +25,6 @@ slice_bounds-translate_listed-end c = sym (length-take-le _ _ (list_few c.args.i
 
 pub translate_listed-requires : goal.translate_listed-requires
 translate_listed-requires c = record {
-       input_value = c.requires;
-       fields_value = list_is c.args.input.now c.size_of-start.result c.args.bitmaps _ _ _ c.list_fields-list.ensures.count c.list_fields-list.ensures.numbers (head_few _ _ _ _ (omega arith) c.requires) ∙ ap (λ (y : ℕ). fields_of (maps_of y c.args.input.now c.args.bitmaps) c.args.bitmaps) c.size_of-start.ensures;
-     }
+  input_value = c.requires;
+  fields_value = list_is c.args.input.now c.size_of-start.result c.args.bitmaps _ _ _ c.list_fields-list.ensures.count c.list_fields-list.ensures.numbers (head_few _ _ _ _ (omega arith) c.requires) ∙ ap (λ (y : ℕ). fields_of (maps_of y c.args.input.now c.args.bitmaps) c.args.bitmaps) c.size_of-start.ensures;
+}

@@ -1,6 +1,6 @@
 -- One law for each end, in Answers, over the table that is lent.
-use Prim.Native.Nat.{ℕ, ◌+◌, ◌-◌, ◌*◌}
-use mathlib.Core.Path.{◌≡◌, sym, ap, ◌∙◌}
+use Prim.Native.Nat.{ℕ, ◌+◌, ◌*◌}
+use mathlib.Core.Path.{sym, ap, ◌∙◌}
 use native.Mathlib.Omega.{arith}
 use lib.ListN.{length}
 use Rattle.field_table.specs.Codes.{decoded}
@@ -8,10 +8,8 @@ use Rattle.bitmap.proofs.Fields.{fields_few}
 use Rattle.bitmap_read.specs.Found.{maps_of}
 use Rattle.packed_field.specs.declared.Script.{Script}
 use Rattle.packed_field.specs.Scripts.{size_of}
-use Rattle.packed_link.specs.Link.{body_judged}
 use Rattle.packed_link.proofs.Heads.{mti_small, head_few, head_room}
-use Rattle.packed_link.proofs.Answers.{ends-refused, ends-short, ends-done, body_is}
-use borrow.Author.Rules.{rules}
+use Rattle.packed_link.proofs.Answers.{ends_refused, ends_short, ends_done, body_is}
 use Rattle.packed_link.proofs.translate_listed.Goals as goal
 
 pub overflow_mul-maps : goal.overflow_mul-maps
@@ -27,26 +25,37 @@ pub judge_fields-requires : goal.judge_fields-requires
 judge_fields-requires c = let f = head_few _ _ _ _ (omega arith) c.requires.input_value in
     let r = head_room _ _ _ _ (omega arith) c.requires.input_value in
     record {
-          start_in_bounds = omega (arith, r, c.size_of.ensures);
-          before_bound = omega (arith, f, mti_small c.other_script.result, c.size_of-2.ensures);
-          fields_len_bound = omega (arith, f, ap length c.requires.fields_value, fields_few (maps_of (size_of c.args.script 4) c.args.input.now c.args.bitmaps) c.args.bitmaps 3 (omega arith) f);
-        }
+      start_in_bounds = omega (arith, r, c.size_of.ensures);
+      before_bound = omega (arith, f, mti_small c.other_script.result, c.size_of-2.ensures);
+      fields_len_bound = omega (arith, f, ap length c.requires.fields_value, fields_few (maps_of (size_of c.args.script 4) c.args.input.now c.args.bitmaps) c.args.bitmaps 3 (omega arith) f);
+    }
 
 pub returns-then-out-written : goal.returns-then-out-written
-returns-then-out-written c = let e = ends-short _ _ _ _ _ _ c.requires.input_value _ _ ((sym (c.judge_fields.ensures ∙ body_is _ (decoded c.args.table.now) _ _ _ c.requires.fields_value _ _ (ap (λ (y : ℕ). y + 8 * c.args.bitmaps) c.size_of.ensures)
+returns-then-out-written c = let e = ends_short _ _ _ _ _ _ c.requires.input_value _ _ ((sym (c.judge_fields.ensures ∙ body_is _ (decoded c.args.table.now) _ _ _ c.requires.fields_value _ _ (ap (λ (y : ℕ). y + 8 * c.args.bitmaps) c.size_of.ensures)
     (ap (λ (y : ℕ). y + 8 * c.args.bitmaps) (c.size_of-2.ensures ∙ ap (λ (x : Script). size_of x 4) c.other_script.ensures)))) ∙ c.in-Good.is) c.if-out-written.true in
     record { answers = e.answer; writes = e.output }
 
 pub write_message-requires : goal.write_message-requires
-write_message-requires c = record { input_value = c.requires.input_value; fields_value = c.requires.fields_value; by_index = (_, _, ((sym (c.judge_fields.ensures ∙ body_is _ (decoded c.args.table.now) _ _ _ c.requires.fields_value _ _ (ap (λ (y : ℕ). y + 8 * c.args.bitmaps) c.size_of.ensures)
-    (ap (λ (y : ℕ). y + 8 * c.args.bitmaps) (c.size_of-2.ensures ∙ ap (λ (x : Script). size_of x 4) c.other_script.ensures)))) ∙ c.in-Good.is, c.if-out-written.false)) }
+write_message-requires c = record {
+  input_value = c.requires.input_value;
+  fields_value = c.requires.fields_value;
+  by_index = (
+    _,
+    _,
+    (
+      (sym (c.judge_fields.ensures ∙ body_is _ (decoded c.args.table.now) _ _ _ c.requires.fields_value _ _ (ap (λ (y : ℕ). y + 8 * c.args.bitmaps) c.size_of.ensures)
+          (ap (λ (y : ℕ). y + 8 * c.args.bitmaps) (c.size_of-2.ensures ∙ ap (λ (x : Script). size_of x 4) c.other_script.ensures)))) ∙ c.in-Good.is,
+      c.if-out-written.false,
+    ),
+  );
+}
 
 pub returns-in-Refused : goal.returns-in-Refused
-returns-in-Refused c = let e = ends-refused _ _ _ _ _ _ c.requires.input_value _ ((sym (c.judge_fields.ensures ∙ body_is _ (decoded c.args.table.now) _ _ _ c.requires.fields_value _ _ (ap (λ (y : ℕ). y + 8 * c.args.bitmaps) c.size_of.ensures)
+returns-in-Refused c = let e = ends_refused _ _ _ _ _ _ c.requires.input_value _ ((sym (c.judge_fields.ensures ∙ body_is _ (decoded c.args.table.now) _ _ _ c.requires.fields_value _ _ (ap (λ (y : ℕ). y + 8 * c.args.bitmaps) c.size_of.ensures)
     (ap (λ (y : ℕ). y + 8 * c.args.bitmaps) (c.size_of-2.ensures ∙ ap (λ (x : Script). size_of x 4) c.other_script.ensures)))) ∙ c.in-Refused.is) in
     record { answers = e.answer; writes = e.output }
 
 pub returns-else-out-written : goal.returns-else-out-written
-returns-else-out-written c = let e = ends-done _ _ _ _ _ _ c.requires.input_value _ _ ((sym (c.judge_fields.ensures ∙ body_is _ (decoded c.args.table.now) _ _ _ c.requires.fields_value _ _ (ap (λ (y : ℕ). y + 8 * c.args.bitmaps) c.size_of.ensures)
+returns-else-out-written c = let e = ends_done _ _ _ _ _ _ c.requires.input_value _ _ ((sym (c.judge_fields.ensures ∙ body_is _ (decoded c.args.table.now) _ _ _ c.requires.fields_value _ _ (ap (λ (y : ℕ). y + 8 * c.args.bitmaps) c.size_of.ensures)
     (ap (λ (y : ℕ). y + 8 * c.args.bitmaps) (c.size_of-2.ensures ∙ ap (λ (x : Script). size_of x 4) c.other_script.ensures)))) ∙ c.in-Good.is) c.if-out-written.false _ c.write_message.ensures in
     record { answers = e.answer; writes = e.output }

@@ -1,8 +1,7 @@
 -- The numbers that are lent stand for the house table.
-use Prim.Native.Nat.{◌-◌}
-use Rattle.packed_link.proofs.Answers.{answer-by, tells-by, output-by}
+use Rattle.packed_link.proofs.Answers.{answer_by_lem, tells_by, output_by_lem}
 use borrow.Author.Rules.{rules}
 use Rattle.packed_link.proofs.unpack.Goals as goal
 
 pub returns : goal.returns
-returns c = search (answer-by, tells-by, output-by, rules)
+returns c = search (answer_by_lem, tells_by, output_by_lem, rules)

@@ -1,10 +1,6 @@
 -- The fields written and those still to come make the whole (Carrying).
-use Prim.Native.Nat.{◌-◌}
-use lib.ListN.{length}
 use native.Mathlib.Omega.{arith}
-use Rattle.packed_link.proofs.Turns.{Met}
-use Rattle.packed_link.proofs.Carrying.{Carrying, carrying_first, carrying_met, carrying_refused, carrying_judged, carrying_within, carrying_room, carrying_part, carrying_good, carrying_end}
-use borrow.Author.Rules.{rules}
+use Rattle.packed_link.proofs.Carrying.{carrying_first, carrying_met, carrying_refused, carrying_judged, carrying_within, carrying_room, carrying_part, carrying_good, carrying_end}
 use Rattle.packed_link.proofs.write_fields.Goals as goal
 
 pub loop-i-init : goal.loop-i-init

@@ -1,9 +1,6 @@
 use Prim.Native.Nat.{◌-◌}
 use lib.ListN.{length}
-use native.Mathlib.Omega.{arith}
-use Rattle.packed_link.proofs.Turns.{Met}
-use Rattle.packed_link.proofs.Carrying.{Carrying, carrying_first, carrying_met, carrying_refused, carrying_judged, carrying_within, carrying_room, carrying_part, carrying_good, carrying_end}
-use borrow.Author.Rules.{rules}
+use Rattle.packed_link.proofs.Carrying.{Carrying}
 use Rattle.packed_link.proofs.write_fields.Given as goal
 
 abbrev pub invariant-loop-i : goal.invariant-loop-i

@@ -1,13 +1,9 @@
 -- MTI, bitmaps and fields are laid one behind the other (Writing).
-use Prim.Native.Nat.{◌+◌, ◌-◌, ◌*◌, ◌≤◌}
 use mathlib.Core.Path.{refl, sym}
 use native.Mathlib.Omega.{arith}
-use lib.ListN.{length, drop}
 use lib.Seq.{length-take-le}
 use Rattle.field_table.specs.Codes.{decoded}
-use Rattle.packed_link.specs.Link.{fields_carried}
 use Rattle.packed_link.proofs.Writing.{few, inside, fields_good, fields_room, message_written}
-use borrow.Author.Rules.{rules}
 use Rattle.packed_link.proofs.write_message.Goals as goal
 
 pub overflow_mul-maps : goal.overflow_mul-maps
@@ -40,10 +36,10 @@ slice_bounds-write_fields-start c = omega (arith, (fields_room _ (decoded c.args
 pub write_fields-requires : goal.write_fields-requires
 write_fields-requires c = let g = fields_good _ _ _ _ c.args.out.now _ c.requires.input_value c.requires.fields_value _ c.size_of-start.ensures _ c.other_script.ensures _ c.size_of-first.ensures _ _ c.requires.by_index.2.0 c.requires.by_index.2.1 in
     record {
-          start_in_bounds = (inside _ (decoded c.args.table.now) _ _ c.args.out.now _ c.requires.input_value c.requires.fields_value _ c.size_of-start.ensures);
-          by_index = (_, _, _, g);
-          input_in_bounds = omega (arith, (fields_room _ (decoded c.args.table.now) _ _ c.args.out.now _ c.requires.input_value c.requires.fields_value _ c.size_of-start.ensures _ c.other_script.ensures _ c.size_of-first.ensures _ _ c.requires.by_index.2.0 c.requires.by_index.2.1), c.write_fields-arg-1.given, c.out-2-1.given, c.out-1.given);
-        }
+      start_in_bounds = (inside _ (decoded c.args.table.now) _ _ c.args.out.now _ c.requires.input_value c.requires.fields_value _ c.size_of-start.ensures);
+      by_index = (_, _, _, g);
+      input_in_bounds = omega (arith, (fields_room _ (decoded c.args.table.now) _ _ c.args.out.now _ c.requires.input_value c.requires.fields_value _ c.size_of-start.ensures _ c.other_script.ensures _ c.size_of-first.ensures _ _ c.requires.by_index.2.0 c.requires.by_index.2.1), c.write_fields-arg-1.given, c.out-2-1.given, c.out-1.given);
+    }
 
 pub returns : goal.returns
 returns c = message_written _ (decoded c.args.table.now) _ _ c.args.out.now _ c.requires.input_value c.requires.fields_value _ c.size_of-start.ensures _ c.other_script.ensures _ c.size_of-first.ensures _ _ c.requires.by_index.2.0 c.requires.by_index.2.1 _ _ _

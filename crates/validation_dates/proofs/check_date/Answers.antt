@@ -2,7 +2,6 @@
 use mathlib.Core.Path.{ap}
 use Rattle.refusal.specs.Refusals.{told_checked}
 use Rattle.validation_dates.proofs.Dates.{date_good, date_bad}
-use borrow.Author.Rules.{rules}
 use Rattle.validation_dates.proofs.check_date.Goals as goal
 
 pub returns-then-is_date : goal.returns-then-is_date

@@ -2,7 +2,6 @@
 use mathlib.Core.Path.{ap}
 use Rattle.refusal.specs.Refusals.{told_checked}
 use Rattle.validation_dates.proofs.Dates.{time_good, time_bad}
-use borrow.Author.Rules.{rules}
 use Rattle.validation_dates.proofs.check_time.Goals as goal
 
 pub returns-then-is_time : goal.returns-then-is_time

@@ -2,8 +2,6 @@ use Prim.Native.Nat.{◌+◌, ◌-◌, ◌≤◌}
 use mathlib.Core.Path.{◌≡◌}
 use lib.ListN.{length, drop}
 use Rattle.validation_pan.specs.Pan.{digits_in}
-use Rattle.validation_pan.proofs.Digits.{counted_digit, counted_other, counted_all}
-use borrow.Author.Rules.{rules}
 use Rattle.validation_pan.proofs.count_digits.Given as goal
 
 abbrev pub invariant-loop-i : goal.invariant-loop-i

@@ -1,5 +1,5 @@
 -- The sum of the digits from the right so far, modulo 10 (Digits).
-use Rattle.validation_pan.proofs.Digits.{digit_least, Weighing, weighing_first, weighing_digit, weighing_other, weighing_done}
+use Rattle.validation_pan.proofs.Digits.{digit_least, weighing_first, weighing_digit, weighing_other, weighing_done}
 use borrow.Author.Rules.{rules}
 use Rattle.validation_pan.proofs.luhn_remainder.Goals as goal
 

@@ -1,5 +1,4 @@
-use Rattle.validation_pan.proofs.Digits.{digit_least, Weighing, weighing_first, weighing_digit, weighing_other, weighing_done}
-use borrow.Author.Rules.{rules}
+use Rattle.validation_pan.proofs.Digits.{Weighing}
 use Rattle.validation_pan.proofs.luhn_remainder.Given as goal
 
 abbrev pub invariant-loop-i : goal.invariant-loop-i
