@@ -1,8 +1,8 @@
 /*
  * Obolchime: ISO 8583:1987 messages, for C and for whatever can call C.
  *
- * The functions are those of the static library that `rt staticlib desk` writes, target/staticlib/libdesk.a. It links into x86-64 Linux
- * programs alone, on whatever machine `rt` wrote it; on Arm, x86_64-linux-gnu-gcc builds them and bridge/x86-64 runs them.
+ * The functions are those of the static library that `bridge/library` writes, target/staticlib/libdesk.a, which is for programs for x86-64
+ * Linux alone.
  *
  * Each function is proved to answer exactly what its definition says, on every input: see the `ensures` in crates/desk/src/lib.rt. That is
  * proved of the source, on the language's abstract machine. Not proved is the compiler's back end, which makes machine code of it; nor can

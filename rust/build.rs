@@ -1,4 +1,4 @@
-//! Finds the static library `libdesk.a`: in the folder that OBOLCHIME_LIB_DIR names, or where `rt staticlib desk` writes it.
+//! Finds the static library `libdesk.a`: in the folder that OBOLCHIME_LIB_DIR names, or where `bridge/library` writes it.
 
 use std::env;
 use std::path::PathBuf;
@@ -20,7 +20,7 @@ fn main() {
     let library = folder.join("libdesk.a");
     println!("cargo:rerun-if-changed={}", library.display());
     if !library.is_file() {
-        eprintln!("{} is not there: run `bridge/build`, or `rt staticlib desk`, at the root of the repository,", library.display());
+        eprintln!("{} is not there: run `bridge/library` at the root of the repository,", library.display());
         eprintln!("or set OBOLCHIME_LIB_DIR to the folder that holds libdesk.a");
         std::process::exit(1);
     }

@@ -21,8 +21,7 @@
 //!
 //! A call that refuses says why in a [`Refusal`]: a number, a field and a position, and prints as plain words. It changes no buffer.
 //!
-//! The static library is built by `bridge/build`, or by `rt staticlib desk`, at the root of the repository; `OBOLCHIME_LIB_DIR` names
-//! another folder that holds it.
+//! The static library is built by `bridge/library` at the root of the repository; `OBOLCHIME_LIB_DIR` names another folder that holds it.
 //!
 //! # What is proved
 //!
