@@ -1,7 +1,6 @@
 -- `main` is safe and ends. The loop's invariant says nothing; the lines that may still come fall.
 --
 -- Assumes nothing.
-use borrow.Author.Rules.{rules}
 use Rattle.ask.proofs.main.Given as goal
 
 abbrev pub invariant-loop-left : goal.invariant-loop-left

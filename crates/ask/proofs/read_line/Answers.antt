@@ -2,11 +2,8 @@
 -- the room left falls.
 --
 -- Assumes nothing.
-use mathlib.Core.Path.{◌≡◌}
-use Prim.Native.Nat.{◌-◌, ◌≤◌}
 use native.Mathlib.Omega.{arith}
-use lib.ListN.{length, length-set}
-use borrow.Author.Rules.{rules}
+use lib.ListN.{length-set}
 use Rattle.ask.proofs.read_line.Goals as goal
 
 pub returns-then-next-eq10 : goal.returns-then-next-eq10

@@ -4,7 +4,6 @@
 -- Assumes nothing.
 use Prim.Native.Nat.{◌-◌, ◌<◌, ◌≤◌}
 use lib.ListN.{length}
-use borrow.Author.Rules.{rules}
 use Rattle.ask.proofs.run_end.Given as goal
 
 abbrev pub invariant-loop-end : goal.invariant-loop-end

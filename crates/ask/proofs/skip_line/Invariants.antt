@@ -1,7 +1,6 @@
 -- `skip_line` is safe and ends. The loop's invariant says nothing; the bytes that may still come fall.
 --
 -- Assumes nothing.
-use borrow.Author.Rules.{rules}
 use Rattle.ask.proofs.skip_line.Given as goal
 
 abbrev pub invariant-loop-left : goal.invariant-loop-left

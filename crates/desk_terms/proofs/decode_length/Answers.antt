@@ -2,7 +2,6 @@
 use Rattle.encoding_length.specs.declared.Encoding.TheVariants.{Ascii, Bcd, Ebcdic}
 use Rattle.desk_terms.proofs.Encodings.{decoded_in, decoded_none}
 use native.Mathlib.Omega.{arith}
-use borrow.Author.Rules.{rules}
 use Rattle.desk_terms.proofs.decode_length.Goals as goal
 
 pub returns-in-0 : goal.returns-in-0

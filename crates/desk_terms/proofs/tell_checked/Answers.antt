@@ -1,6 +1,5 @@
 -- Each case tells its own numbers.
 use Rattle.desk_terms.specs.Terms.{judgement}
-use borrow.Author.Rules.{rules}
 use Rattle.desk_terms.proofs.tell_checked.Goals as goal
 
 pub returns-in-Passed : goal.returns-in-Passed

@@ -1,5 +1,4 @@
 -- Each case tells its own numbers.
-use borrow.Author.Rules.{rules}
 use Rattle.desk_terms.specs.Terms.{translation}
 use Rattle.desk_terms.proofs.tell_translated.Goals as goal
 

@@ -1,5 +1,4 @@
 -- Each case tells its own numbers.
-use borrow.Author.Rules.{rules}
 use Rattle.desk_terms.specs.Terms.{written}
 use Rattle.desk_terms.proofs.tell_written.Goals as goal
 

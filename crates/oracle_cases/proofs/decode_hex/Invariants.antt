@@ -4,7 +4,6 @@
 use mathlib.Core.Path.{◌≡◌}
 use Prim.Native.Nat.{◌-◌}
 use lib.ListN.{length}
-use borrow.Author.Rules.{rules}
 use Rattle.oracle_cases.proofs.decode_hex.Given as goal
 
 abbrev pub invariant-loop-i : goal.invariant-loop-i

@@ -2,7 +2,6 @@
 --
 -- Assumes nothing.
 use Prim.Native.Nat.{◌-◌, ◌≤◌}
-use borrow.Author.Rules.{rules}
 use Rattle.oracle_cases.proofs.print_fields.Given as goal
 
 abbrev pub invariant-loop-field : goal.invariant-loop-field

@@ -1,9 +1,7 @@
 -- The line is one of three words and their numbers.
-use Prim.Native.Nat.{◌-◌}
 use Rattle.till_lines.specs.Lines.{field_line}
 use Rattle.till_lines.proofs.Writing.{tripled_long, named_long}
 use native.Mathlib.Omega.{arith}
-use borrow.Author.Rules.{rules}
 use Rattle.till_lines.proofs.put_field.Goals as goal
 
 pub put_tripled-requires : goal.put_tripled-requires

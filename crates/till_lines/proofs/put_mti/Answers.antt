@@ -1,7 +1,5 @@
 -- The word is laid, then the MTI and the end behind it.
-use Prim.Native.Nat.{◌-◌}
 use Rattle.till_lines.proofs.Writing.{MtiBegun, as_long, mti_line_long, mti_room, mti_begun_size, mti_put_size, mti_ended}
-use borrow.Author.Rules.{rules}
 use native.Mathlib.Omega.{arith}
 use Rattle.till_lines.proofs.put_mti.Goals as goal
 

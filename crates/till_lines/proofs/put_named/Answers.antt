@@ -1,9 +1,7 @@
 -- The word is laid, then the space, the number and the end, each behind the last.
 use mathlib.Core.Path.{sym, ◌∙◌}
-use Prim.Native.Nat.{◌-◌}
 use lib.ListN.{length-set}
-use Rattle.till_lines.proofs.Writing.{Worded, Numbered, named_room, worded_size, spaced_size, numbered_room, numbered_size, end_laid, worded_of, numbered_of}
-use borrow.Author.Rules.{rules}
+use Rattle.till_lines.proofs.Writing.{named_room, worded_size, spaced_size, numbered_room, numbered_size, end_laid, worded_of, numbered_of}
 use native.Mathlib.Omega.{arith}
 use Rattle.till_lines.proofs.put_named.Goals as goal
 

@@ -1,20 +1,14 @@
 -- What is written, the lines of the fields whose notes are left and the line of the end make the whole (Walking).
 use mathlib.Core.Path.{◌≡◌, sym, ◌∙◌}
-use Prim.Native.Nat.{◌-◌}
-use lib.ListN.{length, drop}
+use lib.ListN.{drop}
 use lib.Seq.{length-take-le}
-use Rattle.field_table.specs.House.{house}
-use Rattle.message_notes.specs.declared.Note.{Note}
 use Rattle.message_notes.specs.declared.Note.TheVariants.{Field, End}
 use Rattle.message_notes.specs.Dialect.{plain_form}
 use Rattle.message_notes.specs.Notes.{note_at}
-use Rattle.message_reader.specs.Reader.{reading_with}
-use Rattle.till_lines.specs.Lines.{reading_lines}
-use Rattle.till_lines.proofs.Reading.{Opened, Begun, Headed, input_four, lines_room, mti_fits, begun_room, begun_size, maps_fits, headed_room, headed_size, headed_over, walked_first, headed_of, opened_of, begun_of}
-use Rattle.till_lines.proofs.Walking.{Walked, note_part, walked_inside, field_room, field_within, field_inside, walked_field, end_room, walked_end, never_malformed}
+use Rattle.till_lines.proofs.Reading.{input_four, lines_room, mti_fits, begun_room, begun_size, maps_fits, headed_room, headed_size, headed_over, walked_first, headed_of, opened_of, begun_of}
+use Rattle.till_lines.proofs.Walking.{note_part, walked_inside, field_room, field_within, field_inside, walked_field, end_room, walked_end, never_malformed}
 use Rattle.till_lines.proofs.Writing.{as_long}
 use native.Mathlib.Omega.{arith}
-use borrow.Author.Rules.{rules}
 use Rattle.till_lines.proofs.put_reading.Goals as goal
 
 pub slice_bounds-put_mti-end : goal.slice_bounds-put_mti-end
@@ -59,22 +53,22 @@ slice_bounds-put_field-start c = omega (arith, c.loop-at.invariant.written.withi
 pub put_field-written-requires : goal.put_field-written-requires
 put_field-written-requires c =
     let is_here :
-        (note_at plain_form (drop c.loop-at.at c.args.notes.now)) ≡ Field c.in-Field.number c.in-Field.offset c.in-Field.length =
-        note_part c.args.notes.now c.loop-at.at _ _ c.read_note.ensures c.in-Field.is in
+    (note_at plain_form (drop c.loop-at.at c.args.notes.now)) ≡ Field c.in-Field.number c.in-Field.offset c.in-Field.length =
+    note_part c.args.notes.now c.loop-at.at _ _ c.read_note.ensures c.in-Field.is in
     field_room c.loop-at.invariant is_here
 
 pub overflow_add-written-in-Field : goal.overflow_add-written-in-Field
 overflow_add-written-in-Field c =
     let is_here :
-        (note_at plain_form (drop c.loop-at.at c.args.notes.now)) ≡ Field c.in-Field.number c.in-Field.offset c.in-Field.length =
-        note_part c.args.notes.now c.loop-at.at _ _ c.read_note.ensures c.in-Field.is in
+    (note_at plain_form (drop c.loop-at.at c.args.notes.now)) ≡ Field c.in-Field.number c.in-Field.offset c.in-Field.length =
+    note_part c.args.notes.now c.loop-at.at _ _ c.read_note.ensures c.in-Field.is in
     omega (arith, c.put_field-written.ensures.size, field_within c.loop-at.invariant is_here, lines_room (opened_of c.requires.input_len_bound c.requires.input_value c.requires.text_room_in_bounds))
 
 pub overflow_add-at : goal.overflow_add-at
 overflow_add-at c =
     let is_here :
-        (note_at plain_form (drop c.loop-at.at c.args.notes.now)) ≡ Field c.in-Field.number c.in-Field.offset c.in-Field.length =
-        note_part c.args.notes.now c.loop-at.at _ _ c.read_note.ensures c.in-Field.is in
+    (note_at plain_form (drop c.loop-at.at c.args.notes.now)) ≡ Field c.in-Field.number c.in-Field.offset c.in-Field.length =
+    note_part c.args.notes.now c.loop-at.at _ _ c.read_note.ensures c.in-Field.is in
     omega (arith, field_inside c.loop-at.invariant is_here)
 
 pub loop-at-smaller : goal.loop-at-smaller
@@ -83,8 +77,8 @@ loop-at-smaller c = omega (arith, c.loop-at-test.true)
 pub loop-at-preserved : goal.loop-at-preserved
 loop-at-preserved c =
     let is_here :
-        (note_at plain_form (drop c.loop-at.at c.args.notes.now)) ≡ Field c.in-Field.number c.in-Field.offset c.in-Field.length =
-        note_part c.args.notes.now c.loop-at.at _ _ c.read_note.ensures c.in-Field.is in
+    (note_at plain_form (drop c.loop-at.at c.args.notes.now)) ≡ Field c.in-Field.number c.in-Field.offset c.in-Field.length =
+    note_part c.args.notes.now c.loop-at.at _ _ c.read_note.ensures c.in-Field.is in
     walked_field c.loop-at.invariant is_here c.put_field-written.ensures.size c.put_field-written.ensures.writes
 
 pub slice_bounds-put_named-count-in-End : goal.slice_bounds-put_named-count-in-End

@@ -1,8 +1,7 @@
 -- The line is one of three words and their numbers, which are a machine's.
-use Prim.Native.Nat.{◌<◌, ◌-◌}
+use Prim.Native.Nat.{◌<◌}
 use Rattle.till_lines.specs.Lines.{refused_line}
 use Rattle.till_lines.proofs.Sizes.{refused_most}
-use borrow.Author.Rules.{rules}
 use native.Mathlib.Omega.{arith}
 use Rattle.till_lines.proofs.put_refused.Goals as goal
 
@@ -16,6 +15,6 @@ put_tripled-requires c = let n : c.args.refusal.number < 256 = omega (arith, c.w
 pub returns : goal.returns
 unfolding refused_line
 returns c = record {
-       size = rw (← c.wide-number.ensures.value) c.put_tripled.ensures.size;
-       writes = rw (← c.wide-number.ensures.value) c.put_tripled.ensures.writes;
-     }
+  size = rw (← c.wide-number.ensures.value) c.put_tripled.ensures.size;
+  writes = rw (← c.wide-number.ensures.value) c.put_tripled.ensures.writes;
+}

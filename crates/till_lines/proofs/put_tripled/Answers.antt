@@ -1,7 +1,5 @@
 -- Each word with its number is laid behind the last.
-use Prim.Native.Nat.{◌-◌}
-use Rattle.till_lines.proofs.Writing.{Once, Twice, as_long, tripled_long, once_room, once_size, second_fits, twice_room, twice_size, third_fits, third_laid, twice_of, once_of}
-use borrow.Author.Rules.{rules}
+use Rattle.till_lines.proofs.Writing.{as_long, tripled_long, once_room, once_size, second_fits, twice_room, twice_size, third_fits, third_laid, twice_of, once_of}
 use native.Mathlib.Omega.{arith}
 use Rattle.till_lines.proofs.put_tripled.Goals as goal
 

@@ -2,7 +2,6 @@
 use mathlib.Core.Path.{ap}
 use Rattle.refusal.specs.Refusals.{told_checked}
 use Rattle.refusal.proofs.Checks.{checked_found}
-use borrow.Author.Rules.{rules}
 use Rattle.validation_field.proofs.check_field.Goals as goal
 
 pub returns : goal.returns

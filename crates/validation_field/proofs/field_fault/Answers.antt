@@ -1,5 +1,4 @@
 -- By the numbers that are lent, which stand for the house table.
-use Prim.Native.Nat.{◌-◌}
 use Rattle.validation_field.proofs.Checks.{fault_as}
 use borrow.Author.Rules.{rules}
 use Rattle.validation_field.proofs.field_fault.Goals as goal

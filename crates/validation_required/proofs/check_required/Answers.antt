@@ -1,6 +1,5 @@
 -- One law for each end, in Required.
 use mathlib.Core.Path.{ap}
-use Prim.Native.Nat.{◌-◌}
 use Rattle.refusal.specs.Refusals.{told_checked}
 use Rattle.validation_required.proofs.Required.{required_malformed, required_mti, required_walked}
 use borrow.Author.Rules.{rules}
