@@ -86,7 +86,9 @@ def turn_antt(text, table, members):
         if t.startswith('"'):
             return t
         if t.startswith("--"):
-            return re.sub(NAME, lambda n: table.get(n.group(0), n.group(0)) if "-" not in n.group(0) else n.group(0), t)
+            # A comment may quote the rules, whose LL and LLL are no names of ours, but where a line of the vocabulary begins with them.
+            keep = () if re.match(r"--   LLL? ", t) else ("LL", "LLL")
+            return re.sub(NAME, lambda n: n.group(0) if "-" in n.group(0) or n.group(0) in keep else table.get(n.group(0), n.group(0)), t)
         return table.get(t, t)
     return TOKEN.sub(put, text)
 

@@ -161,7 +161,7 @@ fn unchain(at: usize, b: u8) -> u8
 // Writes the numbers of the bits set in b, whose high bit is number first, to the front of numbers, and answers how many.
 fn list_bits(b: u8, first: usize, numbers: &mut [u8]) -> usize
     requires first_bound { first ≤ 248 }
-    requires in_bounds { 8 ≤ length numbers.old }
+    requires room { 8 ≤ length numbers.old }
     ensures count { result ≡ length (bit_numbers b first) }
     ensures writes { numbers.new ≡ placed (bit_numbers b first) numbers.old }
 {

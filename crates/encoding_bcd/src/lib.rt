@@ -79,8 +79,8 @@ fn encode_fault(src: &[u8]) -> u8
 }
 
 fn put_packed(src: &[u8], out: &mut [u8])
-    requires src_value { all is_digit src.now ≡ true }
-    requires src_in_bounds { bytes_of (length src.now) ≤ length out.old }
+    requires digits { all is_digit src.now ≡ true }
+    requires room { bytes_of (length src.now) ≤ length out.old }
     ensures { out.new ≡ lay (packed src.now) out.old }
 {
     let n = bytes_of(src.len());
@@ -95,7 +95,7 @@ fn put_packed(src: &[u8], out: &mut [u8])
 
 // What the digit at j is worth, counted with the leading 0 where the count of src is odd.
 fn value_at(src: &[u8], j: usize) -> u8
-    requires src_value { all is_digit src.now ≡ true }
+    requires digits { all is_digit src.now ≡ true }
     requires j_in_bounds { j < length (evened src.now) }
     ensures value { result ≡ get_or (evened src.now) j 0 - 48 }
     ensures small { result ≤ 9 }
@@ -161,8 +161,8 @@ fn spare_zero(src: &[u8], digits: usize) -> bool
 }
 
 fn put_unpacked(src: &[u8], digits: usize, out: &mut [u8])
-    requires src_len { length src.now ≡ bytes_of digits }
-    requires digits_in_bounds { digits ≤ length out.old }
+    requires whole { length src.now ≡ bytes_of digits }
+    requires room { digits ≤ length out.old }
     ensures { out.new ≡ lay (unpacked digits src.now) out.old }
 {
     let odd = digits % 2;

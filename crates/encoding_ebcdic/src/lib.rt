@@ -109,8 +109,8 @@ fn decode_fault(src: &[u8], meanings: &[u8; 256]) -> u8
 
 // Writes for each byte of src its entry in the table.
 fn translate(src: &[u8], entries: &[u8; 256], out: &mut [u8])
-    requires entries_len { length entries.now ≡ 256 }
-    requires src_in_bounds { length src.now ≤ length out.old }
+    requires whole { length entries.now ≡ 256 }
+    requires room { length src.now ≤ length out.old }
     ensures { out.new ≡ lay (map (entry_in entries.now) src.now) out.old }
 {
     let mut k = 0;

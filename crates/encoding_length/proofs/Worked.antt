@@ -8,7 +8,7 @@ use Rattle.encoding_ebcdic.specs.Ebcdic.{table, ebcdic_of}
 use Rattle.encoding_length.specs.Lengths.{is_width, spelt, encode_fault}
 use Rattle.encoding_length.specs.declared.Encoding.TheVariants.{Ascii, Bcd, Ebcdic}
 
--- 01: "Writing 100 into two digits, as `encode_length` and the ll writer do": it is refused.
+-- 01: "Writing 100 into two digits, as `encode_length` and the LL writer do": it is refused.
 pub hundred_in_two : encode_fault 2 100 ≡ length_needs_digits
 unfolding encode_fault is_width
 hundred_in_two = refl

@@ -71,7 +71,7 @@ house_rows =
     fixed 96 96 8 B ∷
     fixed 128 128 8 B ∷
     fixed 192 192 8 B ∷
-    -- 02, P2: "Field 55 becomes binary, lll, up to 999"
+    -- 02, P2: "Field 55 becomes binary, LLL, up to 999"
     lll 55 55 999 B ∷
     -- "House fields, added"
     lll 129 191 999 Ans ∷

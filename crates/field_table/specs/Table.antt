@@ -1,6 +1,6 @@
 -- A field table: what is known of a field by its number. Every definition of language, reader, writers and the field check takes a table.
 --
---   Table            == width f: how many length digits field f has (0 fixed, 2 ll, 3 lll);
+--   Table            == width f: how many length digits field f has (0 fixed, 2 LL, 3 LLL);
 --                       most f: its length where it is fixed, else its greatest; class f: its class
 --   Row              == the fields from first to last, which are alike in width, most and class
 --   row w a b m c    == the fields a to b have w length digits, length or greatest length m, and class c

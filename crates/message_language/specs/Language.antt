@@ -36,7 +36,7 @@ use Rattle.octets.specs.Numbers.{is_digit, is_ascii, decimal_of}
 use Rattle.field_table.specs.Table.{Table, is_binary}
 use Rattle.bitmap.specs.Bitmaps.{count_of, fields_of}
 
--- 01: "one dot pair is ll, three dots lll"; "text is any bytes up to 0x7F, binary is any bytes"; "Variable contents may be empty."
+-- 01: "one dot pair is LL, three dots LLL"; "text is any bytes up to 0x7F, binary is any bytes"; "Variable contents may be empty."
 pub record Item (t : Table) (f : ℕ) (ds c : List ℕ) : Type 0 where
   pub width : length ds ≡ t.width f
   pub digits : all is_digit ds ≡ true

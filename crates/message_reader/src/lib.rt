@@ -53,8 +53,8 @@ pub fn read(message: &[u8], notes: &mut [u8]) -> ReadAnswer
 
 // Reads the fields of a message with a good head by the table lent, and writes its notes: lists the fields that its bitmaps name.
 fn read_by(message: &[u8], bitmaps: usize, table: &[u16], notes: &mut [u8]) -> ReadAnswer
-    requires message_value { head_read (dialect (decoded table.now)).most message.now ≡ BitmapsRead.Count bitmaps }
-    requires table_in_bounds { notes_room (dialect (decoded table.now)) ≤ length notes.old }
+    requires headed { head_read (dialect (decoded table.now)).most message.now ≡ BitmapsRead.Count bitmaps }
+    requires room { notes_room (dialect (decoded table.now)) ≤ length notes.old }
     ensures answers { result ≡ read_answer (dialect (decoded table.now)) message.now notes.old }
     ensures writes { notes.new ≡ notes_after (dialect (decoded table.now)) message.now notes.old }
 {
@@ -73,9 +73,9 @@ fn read_listed(
     table: &[u16],
     notes: &mut [u8],
 ) -> ReadAnswer
-    requires message_value { head_read (dialect (decoded table.now)).most message.now ≡ BitmapsRead.Count bitmaps }
-    requires fields_value { fields.now ≡ fields_of (maps_of 4 message.now bitmaps) bitmaps }
-    requires table_in_bounds { notes_room (dialect (decoded table.now)) ≤ length notes.old }
+    requires headed { head_read (dialect (decoded table.now)).most message.now ≡ BitmapsRead.Count bitmaps }
+    requires listed { fields.now ≡ fields_of (maps_of 4 message.now bitmaps) bitmaps }
+    requires room { notes_room (dialect (decoded table.now)) ≤ length notes.old }
     ensures answers { result ≡ read_answer (dialect (decoded table.now)) message.now notes.old }
     ensures writes { notes.new ≡ notes_after (dialect (decoded table.now)) message.now notes.old }
 {
@@ -145,11 +145,11 @@ fn write_notes(
     table: &[u16],
     notes: &mut [u8],
 )
-    requires bitmaps_bound { bitmaps ≤ (dialect (decoded table.now)).most }
-    requires bitmaps_in_bounds { 4 + 8 * bitmaps ≤ length message.now }
-    requires fields_value { fields.now ≡ fields_of (maps_of 4 message.now bitmaps) bitmaps }
-    requires table_in_bounds { notes_room (dialect (decoded table.now)) ≤ length notes.old }
-    requires bitmaps_value { read_body (decoded table.now) message.now bitmaps ≡ FieldsRead.Used used }
+    requires few { bitmaps ≤ (dialect (decoded table.now)).most }
+    requires whole { 4 + 8 * bitmaps ≤ length message.now }
+    requires listed { fields.now ≡ fields_of (maps_of 4 message.now bitmaps) bitmaps }
+    requires room { notes_room (dialect (decoded table.now)) ≤ length notes.old }
+    requires read { read_body (decoded table.now) message.now bitmaps ≡ FieldsRead.Used used }
     ensures { notes.new ≡ lay (notes_of plain_form (reading_with (decoded table.now) message.now bitmaps) used) notes.old }
 {
     message_notes::put_head(&message[..4], bitmaps, notes);
@@ -174,8 +174,8 @@ fn write_fields(
     notes: &mut [u8],
 ) -> usize
     requires start_in_bounds { start ≤ length message.now }
-    requires fields_in_bounds { note_size plain_form * length fields.now ≤ length notes.old }
-    requires by_index { (u : ℕ) × (read_fields (decoded table.now) start fields.now (drop start message.now) ≡ FieldsRead.Used u) }
+    requires room { note_size plain_form * length fields.now ≤ length notes.old }
+    requires read { (u : ℕ) × (read_fields (decoded table.now) start fields.now (drop start message.now) ≡ FieldsRead.Used u) }
     ensures size { result ≡ length (field_notes plain_form (entries_of (decoded table.now) start fields.now (drop start message.now))) }
     ensures writes { notes.new ≡ lay (field_notes plain_form (entries_of (decoded table.now) start fields.now (drop start message.now))) notes.old }
 {

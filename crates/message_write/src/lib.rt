@@ -206,11 +206,11 @@ fn write_ended(
     table: &[u16],
     out: &mut [u8],
 ) -> Output
-    requires notes_value { head_number 3 notes.now ≡ 0 }
-    requires notes_value_2 { listed_in plain_form notes.now ≡ entries_by (decoded table.now) values.now Rule.Clean notes.now }
-    requires bits_value { fields.bits ≡ set_of (numbers_of (listed_in plain_form notes.now)) }
-    requires size_value { size ≡ size_in (decoded table.now) (listed_in plain_form notes.now) }
-    requires size_le_size_most { size ≤ size_most }
+    requires head { head_number 3 notes.now ≡ 0 }
+    requires clean { listed_in plain_form notes.now ≡ entries_by (decoded table.now) values.now Rule.Clean notes.now }
+    requires named { fields.bits ≡ set_of (numbers_of (listed_in plain_form notes.now)) }
+    requires sized { size ≡ size_in (decoded table.now) (listed_in plain_form notes.now) }
+    requires small { size ≤ size_most }
     ensures answers { result ≡ answered (Walked.Ended at said) (message_in (decoded table.now) values.now notes.now) out.old }
     ensures writes { out.new ≡ laid_out (Walked.Ended at said) (message_in (decoded table.now) values.now notes.now) out.old }
 {
@@ -236,10 +236,10 @@ fn write_ended(
 
 // Writes MTI, bitmaps and fields, each behind the last.
 fn write_message(values: &[u8], notes: &[u8], fields: FieldSet, table: &[u16], out: &mut [u8])
-    requires notes_value { head_number 3 notes.now ≡ 0 }
-    requires notes_value_2 { listed_in plain_form notes.now ≡ entries_by (decoded table.now) values.now Rule.Clean notes.now }
-    requires bits_value { fields.bits ≡ set_of (numbers_of (listed_in plain_form notes.now)) }
-    requires notes_in_bounds { length (message_in (decoded table.now) values.now notes.now) ≤ length out.old }
+    requires head { head_number 3 notes.now ≡ 0 }
+    requires clean { listed_in plain_form notes.now ≡ entries_by (decoded table.now) values.now Rule.Clean notes.now }
+    requires named { fields.bits ≡ set_of (numbers_of (listed_in plain_form notes.now)) }
+    requires room { length (message_in (decoded table.now) values.now notes.now) ≤ length out.old }
     ensures { out.new ≡ lay (message_in (decoded table.now) values.now notes.now) out.old }
 {
     let count = message_notes::count_in(notes);
@@ -253,9 +253,9 @@ fn write_message(values: &[u8], notes: &[u8], fields: FieldSet, table: &[u16], o
 
 // Writes the fields one behind the other, each into the rest of the output. Their notes and contents have passed and are not judged again.
 fn write_body(values: &[u8], notes: &[u8], table: &[u16], out: &mut [u8])
-    requires head_size_in_bounds { head_size ≤ length notes.now }
-    requires notes_value { listed_in plain_form notes.now ≡ entries_by (decoded table.now) values.now Rule.Clean notes.now }
-    requires notes_in_bounds { length (body_of (decoded table.now) values.now (listed_in plain_form notes.now)) ≤ length out.old }
+    requires head { head_size ≤ length notes.now }
+    requires clean { listed_in plain_form notes.now ≡ entries_by (decoded table.now) values.now Rule.Clean notes.now }
+    requires room { length (body_of (decoded table.now) values.now (listed_in plain_form notes.now)) ≤ length out.old }
     ensures { out.new ≡ lay (body_of (decoded table.now) values.now (listed_in plain_form notes.now)) out.old }
 {
     let mut written: usize = 0;

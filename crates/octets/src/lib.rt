@@ -127,7 +127,7 @@ pub fn put_big_endian(n: usize, w: usize, out: &mut [u8])
 fn put_digits(n: usize, base: usize, first: u8, w: usize, out: &mut [u8])
     requires base_nonzero { 0 < base }
     requires base_bound { first + base ≤ 256 }
-    requires w_in_bounds { w ≤ length out.old }
+    requires room { w ≤ length out.old }
     ensures { out.new ≡ lay (digits base first w n) out.old }
 {
     let mut left = n;

@@ -1,5 +1,5 @@
 -- Digits as they stand in a message, in either script: plain, an ASCII byte for each, or packed, in BCD. 02, P3: "MTI in two BCD bytes, …
--- ll in one BCD byte and lll in two, `n` contents in BCD with a leading zero half-byte when odd".
+-- LL in one BCD byte and LLL in two, `n` contents in BCD with a leading zero half-byte when odd".
 --
 --   other S              == the other script
 --   size_of S n           == how many bytes n digits take

@@ -172,7 +172,7 @@ fn place_by(rest: &[u8], script: Script, width: usize, most: usize, class: Class
 // How many digits or bytes the content has: as the table says where there are no length digits, else as they say.
 fn content_count(digits: &[u8], script: Script, width: usize, most: usize) -> usize
     requires width_bound { width ≤ 3 }
-    requires digits_value { is_spelt script width digits.now ≡ true }
+    requires spelt { is_spelt script width digits.now ≡ true }
     ensures { result ≡ length_of width most (digits_of script width digits.now) }
 {
     if width == 0 {

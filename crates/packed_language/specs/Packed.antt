@@ -1,5 +1,5 @@
 -- The packed language beside the plain one, written from 02 without the link: what a message says, apart from its form, and its bytes in each of
--- the two forms. 02, P3: "MTI in two BCD bytes, bitmaps as they are, ll in one BCD byte and lll in two, `n` contents in BCD with a leading zero
+-- the two forms. 02, P3: "MTI in two BCD bytes, bitmaps as they are, LL in one BCD byte and LLL in two, `n` contents in BCD with a leading zero
 -- half-byte when odd, lengths counting digits, all other classes as in the plain form."
 --
 --   Allowed t f c       == c is a content of field f as the plain language has it, and it is digits where its class is n

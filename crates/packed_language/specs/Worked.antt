@@ -61,7 +61,7 @@ pub record WorkedPairs : Type 0 where
       Pair (saying map_3 (content 3 (0x31 ∷ 0x32 ∷ 0x33 ∷ 0x34 ∷ 0x35 ∷ 0x36 ∷ []) ∷ []))
       (plain_mti ++ (map_3 ++ (0x31 ∷ 0x32 ∷ 0x33 ∷ 0x34 ∷ 0x35 ∷ 0x36 ∷ [])))
       (packed_mti ++ (map_3 ++ (0x12 ∷ 0x34 ∷ 0x56 ∷ [])))
-  -- "ll in one BCD byte", "a leading zero half-byte when odd, lengths counting digits": field 2, `123`
+  -- "LL in one BCD byte", "a leading zero half-byte when odd, lengths counting digits": field 2, `123`
   pub odd_digits :
       Pair (saying map_2 (content 2 (0x31 ∷ 0x32 ∷ 0x33 ∷ []) ∷ []))
       (plain_mti ++ (map_2 ++ (0x30 ∷ 0x33 ∷ 0x31 ∷ 0x32 ∷ 0x33 ∷ [])))
@@ -73,7 +73,7 @@ pub record WorkedPairs : Type 0 where
       Pair (saying map_2 (content 2 (replicate 12 0x31) ∷ []))
       (plain_mti ++ (map_2 ++ (0x31 ∷ 0x32 ∷ replicate 12 0x31)))
       (packed_mti ++ (map_2 ++ (0x12 ∷ replicate 6 0x11)))
-  -- "and lll in two": field 36, eleven digits
+  -- "and LLL in two": field 36, eleven digits
   pub long_digits :
       Pair (saying map_36 (content 36 (replicate 11 0x32) ∷ []))
       (plain_mti ++ (map_36 ++ (0x30 ∷ 0x31 ∷ 0x31 ∷ replicate 11 0x32)))

@@ -90,8 +90,8 @@ fn translate_listed(
     table: &[u16],
     out: &mut [u8],
 ) -> Translated
-    requires input_value { link_head script 3 input.now ≡ BitmapsRead.Count bitmaps }
-    requires fields_value { fields.now ≡ fields_of (maps_of (size_of script 4) input.now bitmaps) bitmaps }
+    requires headed { link_head script 3 input.now ≡ BitmapsRead.Count bitmaps }
+    requires listed { fields.now ≡ fields_of (maps_of (size_of script 4) input.now bitmaps) bitmaps }
     ensures answers { result ≡ link_answer script (decoded table.now) 3 input.now out.old }
     ensures writes { out.new ≡ link_output script (decoded table.now) 3 input.now out.old }
 {
@@ -158,7 +158,7 @@ fn judge_fields(
 ) -> Judged
     requires start_in_bounds { start ≤ length input.now }
     requires before_bound { before ≤ 28 }
-    requires fields_len_bound { length fields.now ≤ 192 }
+    requires few { length fields.now ≤ 192 }
     ensures { result ≡ fields_judged script (decoded table.now) start before fields.now (drop start input.now) }
 {
     let mut at = start;
@@ -198,9 +198,9 @@ fn write_message(
     table: &[u16],
     out: &mut [u8],
 )
-    requires input_value { link_head script 3 input.now ≡ BitmapsRead.Count bitmaps }
-    requires fields_value { fields.now ≡ fields_of (maps_of (size_of script 4) input.now bitmaps) bitmaps }
-    requires by_index { (u w : ℕ) × ((body_judged script (decoded table.now) input.now bitmaps ≡ Judged.Good u w) × (w ≤ length out.old)) }
+    requires headed { link_head script 3 input.now ≡ BitmapsRead.Count bitmaps }
+    requires listed { fields.now ≡ fields_of (maps_of (size_of script 4) input.now bitmaps) bitmaps }
+    requires judged { (u w : ℕ) × ((body_judged script (decoded table.now) input.now bitmaps ≡ Judged.Good u w) × (w ≤ length out.old)) }
     ensures { out.new ≡ lay (body_carried script (decoded table.now) input.now bitmaps) out.old }
 {
     let start = packed_field::size_of(script, 4);
@@ -224,8 +224,8 @@ fn write_fields(
     out: &mut [u8],
 )
     requires start_in_bounds { start ≤ length input.now }
-    requires by_index { (x u w : ℕ) × (fields_judged script (decoded table.now) start x fields.now (drop start input.now) ≡ Judged.Good u w) }
-    requires input_in_bounds { length (fields_carried script (decoded table.now) fields.now (drop start input.now)) ≤ length out.old }
+    requires judged { (x u w : ℕ) × (fields_judged script (decoded table.now) start x fields.now (drop start input.now) ≡ Judged.Good u w) }
+    requires room { length (fields_carried script (decoded table.now) fields.now (drop start input.now)) ≤ length out.old }
     ensures { out.new ≡ lay (fields_carried script (decoded table.now) fields.now (drop start input.now)) out.old }
 {
     let mut at = start;
@@ -285,9 +285,9 @@ fn carry_item(
 
 // Writes a good content in the other script.
 fn carry_content(content: &[u8], class: Class, count: usize, script: Script, out: &mut [u8])
-    requires content_value { is_content script class count content.now ≡ true }
-    requires content_len { length content.now ≡ content_size script class count }
-    requires count_in_bounds { content_size (other script) class count ≤ length out.old }
+    requires good { is_content script class count content.now ≡ true }
+    requires whole { length content.now ≡ content_size script class count }
+    requires room { content_size (other script) class count ≤ length out.old }
     ensures { out.new ≡ lay (content_carried script class count content.now) out.old }
 {
     if packed_field::is_numeric(class) {

@@ -1,5 +1,5 @@
 -- Contents that are not text, by a dialect d: 8, "a text byte is over 0x7F", is never given for a field whose class is binary, whatever its
--- bytes. 02, P2: "Field 55 becomes binary, lll, up to 999. The language of demand 3 now reads binary for 55 and 8 is never given for it."
+-- bytes. 02, P2: "Field 55 becomes binary, LLL, up to 999. The language of demand 3 now reads binary for 55 and 8 is never given for it."
 --
 --   NeverText d f       == of field f neither the reader nor a writer by the dialect d answers 8, whatever they are lent
 --   BinaryNeverText d   == it of every field whose class is binary

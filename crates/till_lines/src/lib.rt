@@ -66,10 +66,10 @@ fn put_refused(refusal: Refusal, out: &mut [u8]) -> usize
 
 // Writes the lines of an input that was accepted, each behind the last: the fields' by walking the notes.
 fn put_reading(input: &[u8], used: usize, bitmaps: usize, notes: &[u8], text: &mut [u8]) -> usize
-    requires input_len_bound { length input.now ≤ input_most }
-    requires input_value { read_message house (dialect house).most input.now ≡ Accepted used bitmaps }
-    requires notes_value { take (length (notes_of plain_form (reading_with house input.now bitmaps) used)) notes.now ≡ notes_of plain_form (reading_with house input.now bitmaps) used }
-    requires text_room_in_bounds { text_room ≤ length text.old }
+    requires short { length input.now ≤ input_most }
+    requires read { read_message house (dialect house).most input.now ≡ Accepted used bitmaps }
+    requires noted { take (length (notes_of plain_form (reading_with house input.now bitmaps) used)) notes.now ≡ notes_of plain_form (reading_with house input.now bitmaps) used }
+    requires room { text_room ≤ length text.old }
     ensures size { result ≡ length (reading_lines (reading_with house input.now bitmaps) used) }
     ensures writes { text.new ≡ lay (reading_lines (reading_with house input.now bitmaps) used) text.old }
 {

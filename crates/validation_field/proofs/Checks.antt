@@ -43,24 +43,24 @@ pub amount_other : (f : ℕ) → (f ≡ 4 → ⊥) → eqb f 5 ≡ is_amount_fie
 amount_other f h = rw (ne_eqb f 4 h)
 
 -- The tests in their order: number, class, length, value.
-module _ (t : Table) (f : ℕ) (s : List ℕ) (known : Bool) (Known-is : known ≡ is_field f) where
+module _ (t : Table) (f : ℕ) (s : List ℕ) (known : Bool) (known_is : known ≡ is_field f) where
   pub field_unknown : not known ≡ true → number_not_allowed ≡ field_fault t f s
   unfolding field_fault field_tests
-  field_unknown u = rw (← Known-is, not-true known u)
+  field_unknown u = rw (← known_is, not-true known u)
 
-  module _ (k : not known ≡ false) (class : Class) (class_is : class ≡ t.class f) (kept : Bool) (kept-is : kept ≡ conforms class s) where
+  module _ (k : not known ≡ false) (class : Class) (class_is : class ≡ t.class f) (kept : Bool) (kept_is : kept ≡ conforms class s) where
     pub field_broken : not kept ≡ true → class_broken ≡ field_fault t f s
     unfolding field_fault field_tests
-    field_broken u = rw (← Known-is, not-false known k, ← class_is, ← kept-is, not-true kept u)
+    field_broken u = rw (← known_is, not-false known k, ← class_is, ← kept_is, not-true kept u)
 
-    module _ (c : not kept ≡ false) (fits : Bool) (fits-is : fits ≡ is_allowed_length t f (length s)) where
+    module _ (c : not kept ≡ false) (fits : Bool) (fits_is : fits ≡ is_allowed_length t f (length s)) where
       pub field_length : not fits ≡ true → length_not_allowed ≡ field_fault t f s
       unfolding field_fault field_tests
-      field_length u = rw (← Known-is, not-false known k, ← class_is, ← kept-is, not-false kept c, ← fits-is, not-true fits u)
+      field_length u = rw (← known_is, not-false known k, ← class_is, ← kept_is, not-false kept c, ← fits_is, not-true fits u)
 
       pub field_value : not fits ≡ false → (n : ℕ) → n ≡ first_failing (value_tests f s) → n ≡ field_fault t f s
       unfolding field_fault field_tests
-      field_value u n e = rw (← Known-is, not-false known k, ← class_is, ← kept-is, not-false kept c, ← fits-is, not-false fits u) e
+      field_value u n e = rw (← known_is, not-false known k, ← class_is, ← kept_is, not-false kept c, ← fits_is, not-false fits u) e
 
 -- by the table that are lent
 pub fault_as : (t u : Table) (f : ℕ) (s : List ℕ) (r : ℕ) → t ≡ u → r ≡ field_fault t f s → r ≡ field_fault u f s

@@ -19,6 +19,6 @@ TakenByWriter t = (f : ℕ) (s : List ℕ) → field_fault t f s ≡ 0 → (is_f
 unfoldable pub DecidesCurrency : Table → Type 0
 DecidesCurrency t = (f : ℕ) (s : List ℕ) → between 49 51 f ≡ true → eqb (field_fault t f s) 0 ≡ is_currency s
 
--- 02, P2: "Field 55 becomes binary, lll, up to 999"; 01: class b is "anything"
+-- 02, P2: "Field 55 becomes binary, LLL, up to 999"; 01: class b is "anything"
 unfoldable pub MeasuresChip : Table → Type 0
 MeasuresChip t = (s : List ℕ) → field_fault t 55 s ≡ cond (leb (length s) 999) 0 length_not_allowed

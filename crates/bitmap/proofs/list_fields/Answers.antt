@@ -11,7 +11,7 @@ pub loop-at-preserved-then-b-eq0 : goal.loop-at-preserved-then-b-eq0
 loop-at-preserved-then-b-eq0 c = filling_over _ _ _ _ c.loop-at.invariant (search rules) c.if-b-eq0.true
 
 pub list_bits-n-requires : goal.list_bits-n-requires
-list_bits-n-requires c = record { first_bound = search rules; in_bounds = filling_lent _ _ _ _ c.loop-at.invariant (search rules) }
+list_bits-n-requires c = record { first_bound = search rules; room = filling_lent _ _ _ _ c.loop-at.invariant (search rules) }
 
 pub overflow_add-n : goal.overflow_add-n
 overflow_add-n c = omega (arith, filling_sum _ _ _ _ c.loop-at.invariant (search rules) _ _ c.list_bits-n.ensures.count)

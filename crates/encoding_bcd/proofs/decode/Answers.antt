@@ -11,7 +11,7 @@ pub returns-then-out-digits : goal.returns-then-out-digits
 returns-then-out-digits c = let r = answer_tells (search (short_answer, unpacked_sized, rules)) (search (short_output, unpacked_sized, rules)) in record { answers = r.0; tells = r.1.0; writes = r.1.1 }
 
 pub put_unpacked-requires : goal.put_unpacked-requires
-put_unpacked-requires c = record { src_len = search (decode_clean, rules); digits_in_bounds = search rules }
+put_unpacked-requires c = record { whole = search (decode_clean, rules); room = search rules }
 
 pub returns : goal.returns
 returns c = let r = answer_tells (search (done_answer, unpacked_sized, rules)) (search (done_output, unpacked_sized, rules)) in record { answers = r.0; tells = r.1.0; writes = r.1.1 }

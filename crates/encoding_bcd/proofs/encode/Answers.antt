@@ -12,7 +12,7 @@ pub returns-then-out-n : goal.returns-then-out-n
 returns-then-out-n c = let r = answer_tells (search (short_answer, packed_sized, rules)) (search (short_output, packed_sized, rules)) in record { answers = r.0; tells = r.1.0; writes = r.1.1 }
 
 pub put_packed-requires : goal.put_packed-requires
-put_packed-requires c = record { src_value = search (encode_clean, rules); src_in_bounds = search rules }
+put_packed-requires c = record { digits = search (encode_clean, rules); room = search rules }
 
 pub returns : goal.returns
 returns c = let r = answer_tells (search (done_answer, packed_sized, rules)) (search (done_output, packed_sized, rules)) in record { answers = r.0; tells = r.1.0; writes = r.1.1 }

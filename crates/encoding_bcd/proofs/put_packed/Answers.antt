@@ -9,10 +9,10 @@ pub loop-k-init : goal.loop-k-init
 loop-k-init c = search (laid_none, rules)
 
 pub value_at-high-requires : goal.value_at-high-requires
-value_at-high-requires c = record { src_value = search rules; j_in_bounds = omega (arith, evened_length c.args.src.now) }
+value_at-high-requires c = record { digits = search rules; j_in_bounds = omega (arith, evened_length c.args.src.now) }
 
 pub value_at-low-requires : goal.value_at-low-requires
-value_at-low-requires c = record { src_value = search rules; j_in_bounds = omega (arith, evened_length c.args.src.now) }
+value_at-low-requires c = record { digits = search rules; j_in_bounds = omega (arith, evened_length c.args.src.now) }
 
 pub loop-k-preserved : goal.loop-k-preserved
 loop-k-preserved c = (

@@ -19,7 +19,7 @@ pub bounds-entries-src : goal.bounds-entries-src
 bounds-entries-src c = omega (arith, c.shared_slice_known-1.given c.loop-k.k)
 
 pub loop-k-preserved : goal.loop-k-preserved
-loop-k-preserved c = let inside : get_or c.args.src.now c.loop-k.k 0 < length c.args.entries.now = omega (arith, c.requires.entries_len, c.shared_slice_known-1.given c.loop-k.k) in (
+loop-k-preserved c = let inside : get_or c.args.src.now c.loop-k.k 0 < length c.args.entries.now = omega (arith, c.requires.whole, c.shared_slice_known-1.given c.loop-k.k) in (
   search rules,
   (
     map_step (entry_in c.args.entries.now) c.args.src.now _ _ _ c.loop-k.invariant.1.0 _ (search rules) (search rules) (entry_inside c.args.entries.now _ inside),

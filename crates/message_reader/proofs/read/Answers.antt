@@ -10,7 +10,7 @@ returns-then-notes-lt-NOTES_ROOM c = let e = ends_short _ _ _ c.if-notes-lt-NOTE
     record { answers = e.answer; writes = e.notes; tells = ap told_read e.answer }
 
 pub read_by-requires : goal.read_by-requires
-read_by-requires c = record { message_value = sym c.read_head.ensures ∙ c.in-Count.is; table_in_bounds = c.if-notes-lt-NOTES_ROOM.false }
+read_by-requires c = record { headed = sym c.read_head.ensures ∙ c.in-Count.is; room = c.if-notes-lt-NOTES_ROOM.false }
 
 pub returns-in-Refused : goal.returns-in-Refused
 returns-in-Refused c = let e = ends_head _ _ _ c.if-notes-lt-NOTES_ROOM.false _ (sym c.read_head.ensures ∙ c.in-Refused.is) in

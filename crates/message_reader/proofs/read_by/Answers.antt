@@ -7,13 +7,13 @@ use Rattle.message_reader.proofs.Noting.{list_is, list_few}
 use Rattle.message_reader.proofs.read_by.Goals as goal
 
 pub overflow_mul-start : goal.overflow_mul-start
-overflow_mul-start c = omega (arith, head_few _ _ _ c.requires.message_value (omega arith))
+overflow_mul-start c = omega (arith, head_few _ _ _ c.requires.headed (omega arith))
 
 pub overflow_add-start : goal.overflow_add-start
-overflow_add-start c = omega (arith, head_few _ _ _ c.requires.message_value (omega arith))
+overflow_add-start c = omega (arith, head_few _ _ _ c.requires.headed (omega arith))
 
 pub slice_bounds-list_fields-end : goal.slice_bounds-list_fields-end
-slice_bounds-list_fields-end c = omega (arith, head_room _ _ _ c.requires.message_value (omega arith))
+slice_bounds-list_fields-end c = omega (arith, head_room _ _ _ c.requires.headed (omega arith))
 
 pub slice_bounds-numbers-end : goal.slice_bounds-numbers-end
 slice_bounds-numbers-end c = list_few _ _ _ _ refl c.list_fields-list.ensures.count c.list_fields-list.ensures.numbers
@@ -23,7 +23,7 @@ slice_bounds-read_listed-end c = sym (length-take-le _ _ (list_few _ _ _ _ refl 
 
 pub read_listed-requires : goal.read_listed-requires
 read_listed-requires c = record {
-  message_value = c.requires.message_value;
-  fields_value = list_is _ _ _ _ _ (head_few _ _ _ c.requires.message_value (omega arith)) c.list_fields-list.ensures.count c.list_fields-list.ensures.numbers;
-  table_in_bounds = c.requires.table_in_bounds;
+  headed = c.requires.headed;
+  listed = list_is _ _ _ _ _ (head_few _ _ _ c.requires.headed (omega arith)) c.list_fields-list.ensures.count c.list_fields-list.ensures.numbers;
+  room = c.requires.room;
 }

@@ -4,7 +4,7 @@ use native.Mathlib.Omega.{arith}
 use Rattle.message_reader.proofs.write_fields.Goals as goal
 
 pub loop-i-init : goal.loop-i-init
-loop-i-init c = noted_first c.requires.start_in_bounds c.requires.fields_in_bounds c.requires.by_index.1
+loop-i-init c = noted_first c.requires.start_in_bounds c.requires.room c.requires.read.1
 
 pub shape_of-notes-in-Refused : goal.shape_of-notes-in-Refused
 shape_of-notes-in-Refused c = c.loop-i.invariant.written.size

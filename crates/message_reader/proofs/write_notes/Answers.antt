@@ -22,17 +22,17 @@ pub slice_bounds-put_head-end : goal.slice_bounds-put_head-end
 slice_bounds-put_head-end c = sym (length-take-le 4 c.args.message.now (omega arith))
 
 pub overflow_mul-bitmaps : goal.overflow_mul-bitmaps
-overflow_mul-bitmaps c = omega (arith, c.requires.bitmaps_bound)
+overflow_mul-bitmaps c = omega (arith, c.requires.few)
 
 pub overflow_add-bitmaps : goal.overflow_add-bitmaps
-overflow_add-bitmaps c = omega (arith, c.requires.bitmaps_bound)
+overflow_add-bitmaps c = omega (arith, c.requires.few)
 
 pub write_fields-written-requires : goal.write_fields-written-requires
 write_fields-written-requires c = let t = decoded c.args.table.now in
     record {
-      start_in_bounds = c.requires.bitmaps_in_bounds;
-      fields_in_bounds = omega (arith, listed_few (dialect t) _ _ (omega arith) c.requires.bitmaps_bound _ c.requires.fields_value, c.write_fields-arg-1.given, c.notes-1.given, c.requires.table_in_bounds);
-      by_index = (_, body_is t _ _ _ c.requires.fields_value ∙ c.requires.bitmaps_value);
+      start_in_bounds = c.requires.whole;
+      room = omega (arith, listed_few (dialect t) _ _ (omega arith) c.requires.few _ c.requires.listed, c.write_fields-arg-1.given, c.notes-1.given, c.requires.room);
+      read = (_, body_is t _ _ _ c.requires.listed ∙ c.requires.read);
     }
 
 pub overflow_add-end : goal.overflow_add-end
@@ -40,7 +40,7 @@ overflow_add-end c =
     let few :
     c.write_fields-written.result ≤ note_size plain_form * (64 * (dialect (decoded c.args.table.now)).most - 2) =
     let t = decoded c.args.table.now in
-    omega (arith, c.write_fields-written.ensures.size, ap (λ (es : List Entry). length (field_notes plain_form es)) (entries_are t _ _ _ c.requires.fields_value), notes_few (dialect t) c.args.message.now c.args.bitmaps (omega arith) c.requires.bitmaps_bound) in
+    omega (arith, c.write_fields-written.ensures.size, ap (λ (es : List Entry). length (field_notes plain_form es)) (entries_are t _ _ _ c.requires.listed), notes_few (dialect t) c.args.message.now c.args.bitmaps (omega arith) c.requires.few) in
     omega (
       arith,
       few,
@@ -51,13 +51,13 @@ slice_bounds-put_end-count c =
     let few :
     c.write_fields-written.result ≤ note_size plain_form * (64 * (dialect (decoded c.args.table.now)).most - 2) =
     let t = decoded c.args.table.now in
-    omega (arith, c.write_fields-written.ensures.size, ap (λ (es : List Entry). length (field_notes plain_form es)) (entries_are t _ _ _ c.requires.fields_value), notes_few (dialect t) c.args.message.now c.args.bitmaps (omega arith) c.requires.bitmaps_bound) in
+    omega (arith, c.write_fields-written.ensures.size, ap (λ (es : List Entry). length (field_notes plain_form es)) (entries_are t _ _ _ c.requires.listed), notes_few (dialect t) c.args.message.now c.args.bitmaps (omega arith) c.requires.few) in
     omega (
       arith,
       few,
       c.notes-2-1.given,
       c.notes-1.given,
-      c.requires.table_in_bounds,
+      c.requires.room,
     )
 
 pub slice_bounds-put_end-start : goal.slice_bounds-put_end-start
@@ -65,13 +65,13 @@ slice_bounds-put_end-start c =
     let few :
     c.write_fields-written.result ≤ note_size plain_form * (64 * (dialect (decoded c.args.table.now)).most - 2) =
     let t = decoded c.args.table.now in
-    omega (arith, c.write_fields-written.ensures.size, ap (λ (es : List Entry). length (field_notes plain_form es)) (entries_are t _ _ _ c.requires.fields_value), notes_few (dialect t) c.args.message.now c.args.bitmaps (omega arith) c.requires.bitmaps_bound) in
+    omega (arith, c.write_fields-written.ensures.size, ap (λ (es : List Entry). length (field_notes plain_form es)) (entries_are t _ _ _ c.requires.listed), notes_few (dialect t) c.args.message.now c.args.bitmaps (omega arith) c.requires.few) in
     omega (
       arith,
       few,
       c.notes-2-1.given,
       c.notes-1.given,
-      c.requires.table_in_bounds,
+      c.requires.room,
     )
 
 pub returns : goal.returns
@@ -80,19 +80,19 @@ returns c =
     let few :
     c.write_fields-written.result ≤ note_size plain_form * (64 * (dialect (decoded c.args.table.now)).most - 2) =
     let t = decoded c.args.table.now in
-    omega (arith, c.write_fields-written.ensures.size, ap (λ (es : List Entry). length (field_notes plain_form es)) (entries_are t _ _ _ c.requires.fields_value), notes_few (dialect t) c.args.message.now c.args.bitmaps (omega arith) c.requires.bitmaps_bound) in
+    omega (arith, c.write_fields-written.ensures.size, ap (λ (es : List Entry). length (field_notes plain_form es)) (entries_are t _ _ _ c.requires.listed), notes_few (dialect t) c.args.message.now c.args.bitmaps (omega arith) c.requires.few) in
     let t = decoded c.args.table.now in
     let h = head_note (take 4 c.args.message.now) c.args.bitmaps in
     let n = field_notes plain_form (entries_of t (4 + 8 * c.args.bitmaps) c.args.fields.now (drop (4 + 8 * c.args.bitmaps) c.args.message.now)) in
     let u = end_note c.args.used in
-    let l : length h ≡ head_size = head_long (take 4 c.args.message.now) c.args.bitmaps ∙ omega (arith, length-take-le 4 c.args.message.now (omega (arith, c.requires.bitmaps_in_bounds))) in
-    let e1 = c.put_head.ensures ∙ placed_fits h c.args.notes.now head_size l (omega (arith, c.requires.table_in_bounds)) in
+    let l : length h ≡ head_size = head_long (take 4 c.args.message.now) c.args.bitmaps ∙ omega (arith, length-take-le 4 c.args.message.now (omega (arith, c.requires.whole))) in
+    let e1 = c.put_head.ensures ∙ placed_fits h c.args.notes.now head_size l (omega (arith, c.requires.room)) in
     let e2 = lay_part h n c.args.notes.now _ _ head_size e1 l c.write_fields-written.ensures.writes in
     placed_part (h ++ n) u c.args.notes.now _ _ _ e2 (omega (arith, length-append h n)) (omega (
       arith,
       end_long c.args.used,
       few,
-      c.requires.table_in_bounds,
+      c.requires.room,
     )) c.put_end.ensures
     ∙ ap (λ (x : List ℕ). lay x c.args.notes.now) (append_assoc h n u)
-    ∙ ap (λ (es : List Entry). lay (h ++ (field_notes plain_form es ++ u)) c.args.notes.now) (entries_are t c.args.message.now c.args.fields.now c.args.bitmaps c.requires.fields_value)
+    ∙ ap (λ (es : List Entry). lay (h ++ (field_notes plain_form es ++ u)) c.args.notes.now) (entries_are t c.args.message.now c.args.fields.now c.args.bitmaps c.requires.listed)

@@ -6,7 +6,7 @@ use Rattle.message_write.proofs.Writing.{cleared, writing_first, writing_done, w
 use Rattle.message_write.proofs.write_body.Goals as goal
 
 pub loop-at-init : goal.loop-at-init
-loop-at-init c = reading_first c.requires.head_size_in_bounds (writing_first (cleared _ _ _ _ c.requires.notes_value))
+loop-at-init c = reading_first c.requires.head (writing_first (cleared _ _ _ _ c.requires.clean))
 
 pub shape_of-out-in-Malformed : goal.shape_of-out-in-Malformed
 shape_of-out-in-Malformed c = c.loop-at.invariant.holds.written.size
@@ -37,17 +37,17 @@ slice_bounds-put_field-end c =
 pub slice_bounds-put_field-count-in-Field : goal.slice_bounds-put_field-count-in-Field
 slice_bounds-put_field-count-in-Field c =
     let read = read_of c.loop-at.invariant c.read_note.ensures in
-    omega (arith, (writing_fits (decoded_bounded _) (read_here read c.in-Field.is) c.written_size-size.ensures c.requires.notes_in_bounds))
+    omega (arith, (writing_fits (decoded_bounded _) (read_here read c.in-Field.is) c.written_size-size.ensures c.requires.room))
 
 pub slice_bounds-put_field-start-in-Field : goal.slice_bounds-put_field-start-in-Field
 slice_bounds-put_field-start-in-Field c =
     let read = read_of c.loop-at.invariant c.read_note.ensures in
-    omega (arith, (writing_fits (decoded_bounded _) (read_here read c.in-Field.is) c.written_size-size.ensures c.requires.notes_in_bounds))
+    omega (arith, (writing_fits (decoded_bounded _) (read_here read c.in-Field.is) c.written_size-size.ensures c.requires.room))
 
 pub overflow_add-written : goal.overflow_add-written
 overflow_add-written c =
     let read = read_of c.loop-at.invariant c.read_note.ensures in
-    omega (arith, (writing_fits (decoded_bounded _) (read_here read c.in-Field.is) c.written_size-size.ensures c.requires.notes_in_bounds))
+    omega (arith, (writing_fits (decoded_bounded _) (read_here read c.in-Field.is) c.written_size-size.ensures c.requires.room))
 
 pub overflow_add-at : goal.overflow_add-at
 overflow_add-at c =
@@ -63,7 +63,7 @@ pub loop-at-preserved : goal.loop-at-preserved
 loop-at-preserved c =
     let read = read_of c.loop-at.invariant c.read_note.ensures in
     read_next read c.in-Field.is
-    (writing_more (decoded_bounded _) (read_here read c.in-Field.is) c.written_size-size.ensures c.requires.notes_in_bounds c.put_field.ensures)
+    (writing_more (decoded_bounded _) (read_here read c.in-Field.is) c.written_size-size.ensures c.requires.room c.put_field.ensures)
 
 pub shape_of-out : goal.shape_of-out
 shape_of-out c = c.loop-at.invariant.holds.written.size

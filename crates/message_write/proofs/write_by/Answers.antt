@@ -6,11 +6,11 @@ use Rattle.message_write.proofs.write_by.Goals as goal
 pub write_ended-answer-requires : goal.write_ended-answer-requires
 write_ended-answer-requires c = let a = by_asked _ _ _ _ _ c.weigh-weighed.ensures.end _ _ c.in-Ended.is c.requires _ c.weigh-weighed.ensures.fields in
     record {
-      notes_value = a.head;
-      notes_value_2 = a.clean;
-      bits_value = a.named;
-      size_value = by_size _ _ _ _ _ c.weigh-weighed.ensures.end _ _ c.in-Ended.is _ c.weigh-weighed.ensures.size;
-      size_le_size_most = c.weigh-weighed.ensures.small;
+      head = a.head;
+      clean = a.clean;
+      named = a.named;
+      sized = by_size _ _ _ _ _ c.weigh-weighed.ensures.end _ _ c.in-Ended.is _ c.weigh-weighed.ensures.size;
+      small = c.weigh-weighed.ensures.small;
     }
 
 pub returns-in-Refused : goal.returns-in-Refused

@@ -16,31 +16,31 @@ pub overflow_mul-length : goal.overflow_mul-length
 overflow_mul-length c =
     let few :
     c.count_in-count.result ≤ 3 =
-    omega (arith, c.count_in-count.ensures, (asked_head _ _ _ _ (asked_of c.requires.notes_value c.requires.notes_value_2 c.requires.bits_value)).three) in
+    omega (arith, c.count_in-count.ensures, (asked_head _ _ _ _ (asked_of c.requires.head c.requires.clean c.requires.named)).three) in
     omega (arith, few)
 
 pub overflow_add-length : goal.overflow_add-length
 overflow_add-length c =
     let few :
     c.count_in-count.result ≤ 3 =
-    omega (arith, c.count_in-count.ensures, (asked_head _ _ _ _ (asked_of c.requires.notes_value c.requires.notes_value_2 c.requires.bits_value)).three) in
+    omega (arith, c.count_in-count.ensures, (asked_head _ _ _ _ (asked_of c.requires.head c.requires.clean c.requires.named)).three) in
     omega (arith, few)
 
 pub overflow_add-length-2 : goal.overflow_add-length-2
 overflow_add-length-2 c =
     let few :
     c.count_in-count.result ≤ 3 =
-    omega (arith, c.count_in-count.ensures, (asked_head _ _ _ _ (asked_of c.requires.notes_value c.requires.notes_value_2 c.requires.bits_value)).three) in
-    omega (arith, few, c.requires.size_le_size_most)
+    omega (arith, c.count_in-count.ensures, (asked_head _ _ _ _ (asked_of c.requires.head c.requires.clean c.requires.named)).three) in
+    omega (arith, few, c.requires.small)
 
 pub returns-then-said-length : goal.returns-then-said-length
 returns-then-said-length c = record {
-  answers = ended_differs _ _ _ _ _ (asked_size _ _ _ _ (asked_of c.requires.notes_value c.requires.notes_value_2 c.requires.bits_value) (decoded_bounded _) c.args.size c.requires.size_value ∙ omega (arith, c.count_in-count.ensures)) c.if-said-length.true;
-  writes = differs_left _ _ _ _ _ (asked_size _ _ _ _ (asked_of c.requires.notes_value c.requires.notes_value_2 c.requires.bits_value) (decoded_bounded _) c.args.size c.requires.size_value ∙ omega (arith, c.count_in-count.ensures)) c.if-said-length.true;
+  answers = ended_differs _ _ _ _ _ (asked_size _ _ _ _ (asked_of c.requires.head c.requires.clean c.requires.named) (decoded_bounded _) c.args.size c.requires.sized ∙ omega (arith, c.count_in-count.ensures)) c.if-said-length.true;
+  writes = differs_left _ _ _ _ _ (asked_size _ _ _ _ (asked_of c.requires.head c.requires.clean c.requires.named) (decoded_bounded _) c.args.size c.requires.sized ∙ omega (arith, c.count_in-count.ensures)) c.if-said-length.true;
 }
 
 pub returns-then-out-length : goal.returns-then-out-length
-returns-then-out-length c = let sized : length (message_of (decoded c.args.table.now) c.args.values.now (mti_in c.args.notes.now) (count_in c.args.notes.now) (listed_in plain_form c.args.notes.now)) ≡ 4 + 8 * c.count_in-count.result + c.args.size = (asked_size _ _ _ _ (asked_of c.requires.notes_value c.requires.notes_value_2 c.requires.bits_value) (decoded_bounded _) c.args.size c.requires.size_value ∙ omega (arith, c.count_in-count.ensures)) in
+returns-then-out-length c = let sized : length (message_of (decoded c.args.table.now) c.args.values.now (mti_in c.args.notes.now) (count_in c.args.notes.now) (listed_in plain_form c.args.notes.now)) ≡ 4 + 8 * c.count_in-count.result + c.args.size = (asked_size _ _ _ _ (asked_of c.requires.head c.requires.clean c.requires.named) (decoded_bounded _) c.args.size c.requires.sized ∙ omega (arith, c.count_in-count.ensures)) in
     record {
       answers = ended_short _ _ _ _ _ sized c.if-said-length.false c.if-out-length.true;
       writes = short_left _ _ _ _ _ sized c.if-said-length.false c.if-out-length.true;
@@ -48,14 +48,14 @@ returns-then-out-length c = let sized : length (message_of (decoded c.args.table
 
 pub write_message-requires : goal.write_message-requires
 write_message-requires c = record {
-  notes_value = c.requires.notes_value;
-  notes_value_2 = c.requires.notes_value_2;
-  bits_value = c.requires.bits_value;
-  notes_in_bounds = let sized : length (message_of (decoded c.args.table.now) c.args.values.now (mti_in c.args.notes.now) (count_in c.args.notes.now) (listed_in plain_form c.args.notes.now)) ≡ 4 + 8 * c.count_in-count.result + c.args.size = asked_size _ _ _ _ (asked_of c.requires.notes_value c.requires.notes_value_2 c.requires.bits_value) (decoded_bounded _) c.args.size c.requires.size_value ∙ omega (arith, c.count_in-count.ensures) in omega (arith, sized, c.if-out-length.false);
+  head = c.requires.head;
+  clean = c.requires.clean;
+  named = c.requires.named;
+  room = let sized : length (message_of (decoded c.args.table.now) c.args.values.now (mti_in c.args.notes.now) (count_in c.args.notes.now) (listed_in plain_form c.args.notes.now)) ≡ 4 + 8 * c.count_in-count.result + c.args.size = asked_size _ _ _ _ (asked_of c.requires.head c.requires.clean c.requires.named) (decoded_bounded _) c.args.size c.requires.sized ∙ omega (arith, c.count_in-count.ensures) in omega (arith, sized, c.if-out-length.false);
 }
 
 pub returns : goal.returns
-returns c = let sized : length (message_of (decoded c.args.table.now) c.args.values.now (mti_in c.args.notes.now) (count_in c.args.notes.now) (listed_in plain_form c.args.notes.now)) ≡ 4 + 8 * c.count_in-count.result + c.args.size = (asked_size _ _ _ _ (asked_of c.requires.notes_value c.requires.notes_value_2 c.requires.bits_value) (decoded_bounded _) c.args.size c.requires.size_value ∙ omega (arith, c.count_in-count.ensures)) in
+returns c = let sized : length (message_of (decoded c.args.table.now) c.args.values.now (mti_in c.args.notes.now) (count_in c.args.notes.now) (listed_in plain_form c.args.notes.now)) ≡ 4 + 8 * c.count_in-count.result + c.args.size = (asked_size _ _ _ _ (asked_of c.requires.head c.requires.clean c.requires.named) (decoded_bounded _) c.args.size c.requires.sized ∙ omega (arith, c.count_in-count.ensures)) in
     record {
       answers = ended_written _ _ _ _ _ sized c.if-said-length.false c.if-out-length.false;
       writes = written_laid _ _ _ _ _ sized c.if-said-length.false _ c.if-out-length.false c.write_message.ensures;

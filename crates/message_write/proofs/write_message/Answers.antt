@@ -15,66 +15,66 @@ pub overflow_mul-size : goal.overflow_mul-size
 overflow_mul-size c =
     let few :
     (c.count_in-count.result ≤ 3) × (4 + 8 * c.count_in-count.result + length (body_of (decoded c.args.table.now) c.args.values.now (listed_in plain_form c.args.notes.now)) ≤ length c.args.out.now) =
-    omega (arith, c.count_in-count.ensures, (asked_head _ _ _ _ (asked_of c.requires.notes_value c.requires.notes_value_2 c.requires.bits_value)).three, asked_long _ _ _ _ (asked_of c.requires.notes_value c.requires.notes_value_2 c.requires.bits_value), c.requires.notes_in_bounds) in
+    omega (arith, c.count_in-count.ensures, (asked_head _ _ _ _ (asked_of c.requires.head c.requires.clean c.requires.named)).three, asked_long _ _ _ _ (asked_of c.requires.head c.requires.clean c.requires.named), c.requires.room) in
     omega (arith, few)
 
 pub overflow_add-start : goal.overflow_add-start
 overflow_add-start c =
     let few :
     (c.count_in-count.result ≤ 3) × (4 + 8 * c.count_in-count.result + length (body_of (decoded c.args.table.now) c.args.values.now (listed_in plain_form c.args.notes.now)) ≤ length c.args.out.now) =
-    omega (arith, c.count_in-count.ensures, (asked_head _ _ _ _ (asked_of c.requires.notes_value c.requires.notes_value_2 c.requires.bits_value)).three, asked_long _ _ _ _ (asked_of c.requires.notes_value c.requires.notes_value_2 c.requires.bits_value), c.requires.notes_in_bounds) in
+    omega (arith, c.count_in-count.ensures, (asked_head _ _ _ _ (asked_of c.requires.head c.requires.clean c.requires.named)).three, asked_long _ _ _ _ (asked_of c.requires.head c.requires.clean c.requires.named), c.requires.room) in
     omega (arith, few)
 
 pub slice_bounds-put-end : goal.slice_bounds-put-end
 slice_bounds-put-end c =
     let few :
     (c.count_in-count.result ≤ 3) × (4 + 8 * c.count_in-count.result + length (body_of (decoded c.args.table.now) c.args.values.now (listed_in plain_form c.args.notes.now)) ≤ length c.args.out.now) =
-    omega (arith, c.count_in-count.ensures, (asked_head _ _ _ _ (asked_of c.requires.notes_value c.requires.notes_value_2 c.requires.bits_value)).three, asked_long _ _ _ _ (asked_of c.requires.notes_value c.requires.notes_value_2 c.requires.bits_value), c.requires.notes_in_bounds) in
+    omega (arith, c.count_in-count.ensures, (asked_head _ _ _ _ (asked_of c.requires.head c.requires.clean c.requires.named)).three, asked_long _ _ _ _ (asked_of c.requires.head c.requires.clean c.requires.named), c.requires.room) in
     omega (arith, few, made_long _ _ _ (c.to_bytes-maps.ensures ∙ c.of.ensures.bytes) (omega arith))
 
 pub slice_bounds-put-count-2 : goal.slice_bounds-put-count-2
 slice_bounds-put-count-2 c =
     let few :
     (c.count_in-count.result ≤ 3) × (4 + 8 * c.count_in-count.result + length (body_of (decoded c.args.table.now) c.args.values.now (listed_in plain_form c.args.notes.now)) ≤ length c.args.out.now) =
-    omega (arith, c.count_in-count.ensures, (asked_head _ _ _ _ (asked_of c.requires.notes_value c.requires.notes_value_2 c.requires.bits_value)).three, asked_long _ _ _ _ (asked_of c.requires.notes_value c.requires.notes_value_2 c.requires.bits_value), c.requires.notes_in_bounds) in
+    omega (arith, c.count_in-count.ensures, (asked_head _ _ _ _ (asked_of c.requires.head c.requires.clean c.requires.named)).three, asked_long _ _ _ _ (asked_of c.requires.head c.requires.clean c.requires.named), c.requires.room) in
     omega (arith, few, c.out-1.given)
 
 pub slice_bounds-put-start-2 : goal.slice_bounds-put-start-2
 slice_bounds-put-start-2 c =
     let few :
     (c.count_in-count.result ≤ 3) × (4 + 8 * c.count_in-count.result + length (body_of (decoded c.args.table.now) c.args.values.now (listed_in plain_form c.args.notes.now)) ≤ length c.args.out.now) =
-    omega (arith, c.count_in-count.ensures, (asked_head _ _ _ _ (asked_of c.requires.notes_value c.requires.notes_value_2 c.requires.bits_value)).three, asked_long _ _ _ _ (asked_of c.requires.notes_value c.requires.notes_value_2 c.requires.bits_value), c.requires.notes_in_bounds) in
+    omega (arith, c.count_in-count.ensures, (asked_head _ _ _ _ (asked_of c.requires.head c.requires.clean c.requires.named)).three, asked_long _ _ _ _ (asked_of c.requires.head c.requires.clean c.requires.named), c.requires.room) in
     omega (arith, few, c.out-1.given)
 
 pub slice_bounds-write_body-count : goal.slice_bounds-write_body-count
 slice_bounds-write_body-count c =
     let few :
     (c.count_in-count.result ≤ 3) × (4 + 8 * c.count_in-count.result + length (body_of (decoded c.args.table.now) c.args.values.now (listed_in plain_form c.args.notes.now)) ≤ length c.args.out.now) =
-    omega (arith, c.count_in-count.ensures, (asked_head _ _ _ _ (asked_of c.requires.notes_value c.requires.notes_value_2 c.requires.bits_value)).three, asked_long _ _ _ _ (asked_of c.requires.notes_value c.requires.notes_value_2 c.requires.bits_value), c.requires.notes_in_bounds) in
+    omega (arith, c.count_in-count.ensures, (asked_head _ _ _ _ (asked_of c.requires.head c.requires.clean c.requires.named)).three, asked_long _ _ _ _ (asked_of c.requires.head c.requires.clean c.requires.named), c.requires.room) in
     omega (arith, few, c.out-1.given, c.out-2-1.given)
 
 pub slice_bounds-write_body-start : goal.slice_bounds-write_body-start
 slice_bounds-write_body-start c =
     let few :
     (c.count_in-count.result ≤ 3) × (4 + 8 * c.count_in-count.result + length (body_of (decoded c.args.table.now) c.args.values.now (listed_in plain_form c.args.notes.now)) ≤ length c.args.out.now) =
-    omega (arith, c.count_in-count.ensures, (asked_head _ _ _ _ (asked_of c.requires.notes_value c.requires.notes_value_2 c.requires.bits_value)).three, asked_long _ _ _ _ (asked_of c.requires.notes_value c.requires.notes_value_2 c.requires.bits_value), c.requires.notes_in_bounds) in
+    omega (arith, c.count_in-count.ensures, (asked_head _ _ _ _ (asked_of c.requires.head c.requires.clean c.requires.named)).three, asked_long _ _ _ _ (asked_of c.requires.head c.requires.clean c.requires.named), c.requires.room) in
     omega (arith, few, c.out-1.given, c.out-2-1.given)
 
 pub write_body-requires : goal.write_body-requires
 write_body-requires c =
     let few :
     (c.count_in-count.result ≤ 3) × (4 + 8 * c.count_in-count.result + length (body_of (decoded c.args.table.now) c.args.values.now (listed_in plain_form c.args.notes.now)) ≤ length c.args.out.now) =
-    omega (arith, c.count_in-count.ensures, (asked_head _ _ _ _ (asked_of c.requires.notes_value c.requires.notes_value_2 c.requires.bits_value)).three, asked_long _ _ _ _ (asked_of c.requires.notes_value c.requires.notes_value_2 c.requires.bits_value), c.requires.notes_in_bounds) in
+    omega (arith, c.count_in-count.ensures, (asked_head _ _ _ _ (asked_of c.requires.head c.requires.clean c.requires.named)).three, asked_long _ _ _ _ (asked_of c.requires.head c.requires.clean c.requires.named), c.requires.room) in
     record {
-      head_size_in_bounds = (asked_head _ _ _ _ (asked_of c.requires.notes_value c.requires.notes_value_2 c.requires.bits_value)).whole;
-      notes_value = c.requires.notes_value_2;
-      notes_in_bounds = omega (arith, few, c.out-1.given, c.out-2-1.given, c.write_body-arg-1.given.1);
+      head = (asked_head _ _ _ _ (asked_of c.requires.head c.requires.clean c.requires.named)).whole;
+      clean = c.requires.clean;
+      room = omega (arith, few, c.out-1.given, c.out-2-1.given, c.write_body-arg-1.given.1);
     }
 
 pub returns : goal.returns
-returns c = message_written _ _ _ _ (asked_of c.requires.notes_value c.requires.notes_value_2 c.requires.bits_value) c.count_in-count.result c.count_in-count.ensures _ c.mti_in.ensures.bytes _ (c.to_bytes-maps.ensures ∙ c.of.ensures.bytes)
+returns c = message_written _ _ _ _ (asked_of c.requires.head c.requires.clean c.requires.named) c.count_in-count.result c.count_in-count.ensures _ c.mti_in.ensures.bytes _ (c.to_bytes-maps.ensures ∙ c.of.ensures.bytes)
     _ _ _ _
-    c.requires.notes_in_bounds
+    c.requires.room
     c.put.ensures
     c.put-2.ensures
     c.write_body.ensures

@@ -17,7 +17,7 @@ pub returns-then-not-is_spelt : goal.returns-then-not-is_spelt
 returns-then-not-is_spelt c = search (place_no_digit, rules)
 
 pub content_count-count-requires : goal.content_count-count-requires
-content_count-count-requires c = record { width_bound = search rules; digits_value = tested_true _ _ c.is_spelt.ensures (rw c.if-not-is_spelt.false) }
+content_count-count-requires c = record { width_bound = search rules; spelt = tested_true _ _ c.is_spelt.ensures (rw c.if-not-is_spelt.false) }
 
 pub returns-then-most-count : goal.returns-then-most-count
 returns-then-most-count c = search (place_long, rules)

@@ -35,9 +35,9 @@ slice_bounds-carry_content-start-2 c = omega (
 pub carry_content-requires : goal.carry_content-requires
 carry_content-requires c = let q = content_asked _ _ _ _ _ _ _ _ c.requires.1.0 _ c.class_in-class.ensures in
     record {
-      content_value = q.0;
-      content_len = q.1;
-      count_in_bounds = omega (
+      good = q.0;
+      whole = q.1;
+      room = omega (
         arith,
         (first_left _ _ _ _ _ _ _ _ c.requires.1.0 _ _ _ _ c.width_in-width.ensures.value
             c.other_script.ensures c.size_of-first.ensures c.class_in-class.ensures),

@@ -17,7 +17,7 @@ pub overflow_add-at-in-Found : goal.overflow_add-at-in-Found
 overflow_add-at-in-Found c = omega (arith, scan_within c.loop-i.invariant (met _ _ _ _ _ _ _ _ c.loop-i-test.true c.wide-field.ensures.value c.judge_item.ensures) c.in-Found.is)
 
 pub overflow_add-written : goal.overflow_add-written
-overflow_add-written c = omega (arith, scan_small c.loop-i.invariant (met _ _ _ _ _ _ _ _ c.loop-i-test.true c.wide-field.ensures.value c.judge_item.ensures) c.in-Found.is, c.loop-i-test.true, c.requires.before_bound, c.requires.fields_len_bound)
+overflow_add-written c = omega (arith, scan_small c.loop-i.invariant (met _ _ _ _ _ _ _ _ c.loop-i-test.true c.wide-field.ensures.value c.judge_item.ensures) c.in-Found.is, c.loop-i-test.true, c.requires.before_bound, c.requires.few)
 
 pub loop-i-smaller : goal.loop-i-smaller
 loop-i-smaller c = omega (arith, c.loop-i-test.true)

@@ -25,6 +25,6 @@ slice_bounds-translate_listed-end c = sym (length-take-le _ _ (list_few c.args.i
 
 pub translate_listed-requires : goal.translate_listed-requires
 translate_listed-requires c = record {
-  input_value = c.requires;
-  fields_value = list_is c.args.input.now c.size_of-start.result c.args.bitmaps _ _ _ c.list_fields-list.ensures.count c.list_fields-list.ensures.numbers (head_few _ _ _ _ (omega arith) c.requires) ∙ ap (λ (y : ℕ). fields_of (maps_of y c.args.input.now c.args.bitmaps) c.args.bitmaps) c.size_of-start.ensures;
+  headed = c.requires;
+  listed = list_is c.args.input.now c.size_of-start.result c.args.bitmaps _ _ _ c.list_fields-list.ensures.count c.list_fields-list.ensures.numbers (head_few _ _ _ _ (omega arith) c.requires) ∙ ap (λ (y : ℕ). fields_of (maps_of y c.args.input.now c.args.bitmaps) c.args.bitmaps) c.size_of-start.ensures;
 }

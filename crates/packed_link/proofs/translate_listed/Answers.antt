@@ -13,37 +13,37 @@ use Rattle.packed_link.proofs.Answers.{ends_refused, ends_short, ends_done, body
 use Rattle.packed_link.proofs.translate_listed.Goals as goal
 
 pub overflow_mul-maps : goal.overflow_mul-maps
-overflow_mul-maps c = omega (arith, head_few _ _ _ _ (omega arith) c.requires.input_value)
+overflow_mul-maps c = omega (arith, head_few _ _ _ _ (omega arith) c.requires.headed)
 
 pub overflow_add-start : goal.overflow_add-start
-overflow_add-start c = omega (arith, head_few _ _ _ _ (omega arith) c.requires.input_value, mti_small c.args.script, c.size_of.ensures)
+overflow_add-start c = omega (arith, head_few _ _ _ _ (omega arith) c.requires.headed, mti_small c.args.script, c.size_of.ensures)
 
 pub overflow_add-before : goal.overflow_add-before
-overflow_add-before c = omega (arith, head_few _ _ _ _ (omega arith) c.requires.input_value, mti_small c.other_script.result, c.size_of-2.ensures)
+overflow_add-before c = omega (arith, head_few _ _ _ _ (omega arith) c.requires.headed, mti_small c.other_script.result, c.size_of-2.ensures)
 
 pub judge_fields-requires : goal.judge_fields-requires
-judge_fields-requires c = let f = head_few _ _ _ _ (omega arith) c.requires.input_value in
-    let r = head_room _ _ _ _ (omega arith) c.requires.input_value in
+judge_fields-requires c = let f = head_few _ _ _ _ (omega arith) c.requires.headed in
+    let r = head_room _ _ _ _ (omega arith) c.requires.headed in
     record {
       start_in_bounds = omega (arith, r, c.size_of.ensures);
       before_bound = omega (arith, f, mti_small c.other_script.result, c.size_of-2.ensures);
-      fields_len_bound = omega (arith, f, ap length c.requires.fields_value, fields_few (maps_of (size_of c.args.script 4) c.args.input.now c.args.bitmaps) c.args.bitmaps 3 (omega arith) f);
+      few = omega (arith, f, ap length c.requires.listed, fields_few (maps_of (size_of c.args.script 4) c.args.input.now c.args.bitmaps) c.args.bitmaps 3 (omega arith) f);
     }
 
 pub returns-then-out-written : goal.returns-then-out-written
-returns-then-out-written c = let e = ends_short _ _ _ _ _ _ c.requires.input_value _ _ ((sym (c.judge_fields.ensures ∙ body_is _ (decoded c.args.table.now) _ _ _ c.requires.fields_value _ _ (ap (λ (y : ℕ). y + 8 * c.args.bitmaps) c.size_of.ensures)
+returns-then-out-written c = let e = ends_short _ _ _ _ _ _ c.requires.headed _ _ ((sym (c.judge_fields.ensures ∙ body_is _ (decoded c.args.table.now) _ _ _ c.requires.listed _ _ (ap (λ (y : ℕ). y + 8 * c.args.bitmaps) c.size_of.ensures)
     (ap (λ (y : ℕ). y + 8 * c.args.bitmaps) (c.size_of-2.ensures ∙ ap (λ (x : Script). size_of x 4) c.other_script.ensures)))) ∙ c.in-Good.is) c.if-out-written.true in
     record { answers = e.answer; writes = e.output }
 
 pub write_message-requires : goal.write_message-requires
 write_message-requires c = record {
-  input_value = c.requires.input_value;
-  fields_value = c.requires.fields_value;
-  by_index = (
+  headed = c.requires.headed;
+  listed = c.requires.listed;
+  judged = (
     _,
     _,
     (
-      (sym (c.judge_fields.ensures ∙ body_is _ (decoded c.args.table.now) _ _ _ c.requires.fields_value _ _ (ap (λ (y : ℕ). y + 8 * c.args.bitmaps) c.size_of.ensures)
+      (sym (c.judge_fields.ensures ∙ body_is _ (decoded c.args.table.now) _ _ _ c.requires.listed _ _ (ap (λ (y : ℕ). y + 8 * c.args.bitmaps) c.size_of.ensures)
           (ap (λ (y : ℕ). y + 8 * c.args.bitmaps) (c.size_of-2.ensures ∙ ap (λ (x : Script). size_of x 4) c.other_script.ensures)))) ∙ c.in-Good.is,
       c.if-out-written.false,
     ),
@@ -51,11 +51,11 @@ write_message-requires c = record {
 }
 
 pub returns-in-Refused : goal.returns-in-Refused
-returns-in-Refused c = let e = ends_refused _ _ _ _ _ _ c.requires.input_value _ ((sym (c.judge_fields.ensures ∙ body_is _ (decoded c.args.table.now) _ _ _ c.requires.fields_value _ _ (ap (λ (y : ℕ). y + 8 * c.args.bitmaps) c.size_of.ensures)
+returns-in-Refused c = let e = ends_refused _ _ _ _ _ _ c.requires.headed _ ((sym (c.judge_fields.ensures ∙ body_is _ (decoded c.args.table.now) _ _ _ c.requires.listed _ _ (ap (λ (y : ℕ). y + 8 * c.args.bitmaps) c.size_of.ensures)
     (ap (λ (y : ℕ). y + 8 * c.args.bitmaps) (c.size_of-2.ensures ∙ ap (λ (x : Script). size_of x 4) c.other_script.ensures)))) ∙ c.in-Refused.is) in
     record { answers = e.answer; writes = e.output }
 
 pub returns-else-out-written : goal.returns-else-out-written
-returns-else-out-written c = let e = ends_done _ _ _ _ _ _ c.requires.input_value _ _ ((sym (c.judge_fields.ensures ∙ body_is _ (decoded c.args.table.now) _ _ _ c.requires.fields_value _ _ (ap (λ (y : ℕ). y + 8 * c.args.bitmaps) c.size_of.ensures)
+returns-else-out-written c = let e = ends_done _ _ _ _ _ _ c.requires.headed _ _ ((sym (c.judge_fields.ensures ∙ body_is _ (decoded c.args.table.now) _ _ _ c.requires.listed _ _ (ap (λ (y : ℕ). y + 8 * c.args.bitmaps) c.size_of.ensures)
     (ap (λ (y : ℕ). y + 8 * c.args.bitmaps) (c.size_of-2.ensures ∙ ap (λ (x : Script). size_of x 4) c.other_script.ensures)))) ∙ c.in-Good.is) c.if-out-written.false _ c.write_message.ensures in
     record { answers = e.answer; writes = e.output }

@@ -4,7 +4,7 @@ use Rattle.packed_link.proofs.Carrying.{carrying_first, carrying_met, carrying_r
 use Rattle.packed_link.proofs.write_fields.Goals as goal
 
 pub loop-i-init : goal.loop-i-init
-loop-i-init c = carrying_first _ _ _ c.requires.start_in_bounds c.requires.by_index.3 c.requires.input_in_bounds
+loop-i-init c = carrying_first _ _ _ c.requires.start_in_bounds c.requires.judged.3 c.requires.room
 
 pub shape_of-out-in-Refused : goal.shape_of-out-in-Refused
 shape_of-out-in-Refused c = c.loop-i.invariant.written.size

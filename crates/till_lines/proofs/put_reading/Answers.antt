@@ -12,37 +12,37 @@ use native.Mathlib.Omega.{arith}
 use Rattle.till_lines.proofs.put_reading.Goals as goal
 
 pub slice_bounds-put_mti-end : goal.slice_bounds-put_mti-end
-slice_bounds-put_mti-end c = sym (length-take-le 4 c.args.input.now (input_four (opened_of c.requires.input_len_bound c.requires.input_value c.requires.text_room_in_bounds)))
+slice_bounds-put_mti-end c = sym (length-take-le 4 c.args.input.now (input_four (opened_of c.requires.short c.requires.read c.requires.room)))
 
 pub put_mti-written-requires : goal.put_mti-written-requires
-put_mti-written-requires c = mti_fits (opened_of c.requires.input_len_bound c.requires.input_value c.requires.text_room_in_bounds)
+put_mti-written-requires c = mti_fits (opened_of c.requires.short c.requires.read c.requires.room)
 
 pub slice_bounds-put_named-count : goal.slice_bounds-put_named-count
 slice_bounds-put_named-count c =
-    let begun = begun_of (opened_of c.requires.input_len_bound c.requires.input_value c.requires.text_room_in_bounds) c.put_mti-written.ensures.size c.put_mti-written.ensures.writes in
-    omega (arith, begun_size begun, begun_room begun, c.requires.text_room_in_bounds)
+    let begun = begun_of (opened_of c.requires.short c.requires.read c.requires.room) c.put_mti-written.ensures.size c.put_mti-written.ensures.writes in
+    omega (arith, begun_size begun, begun_room begun, c.requires.room)
 
 pub slice_bounds-put_named-start : goal.slice_bounds-put_named-start
 slice_bounds-put_named-start c =
-    let begun = begun_of (opened_of c.requires.input_len_bound c.requires.input_value c.requires.text_room_in_bounds) c.put_mti-written.ensures.size c.put_mti-written.ensures.writes in
-    omega (arith, begun_size begun, begun_room begun, c.requires.text_room_in_bounds)
+    let begun = begun_of (opened_of c.requires.short c.requires.read c.requires.room) c.put_mti-written.ensures.size c.put_mti-written.ensures.writes in
+    omega (arith, begun_size begun, begun_room begun, c.requires.room)
 
 pub put_named-written-requires : goal.put_named-written-requires
 put_named-written-requires c =
-    let begun = begun_of (opened_of c.requires.input_len_bound c.requires.input_value c.requires.text_room_in_bounds) c.put_mti-written.ensures.size c.put_mti-written.ensures.writes in
+    let begun = begun_of (opened_of c.requires.short c.requires.read c.requires.room) c.put_mti-written.ensures.size c.put_mti-written.ensures.writes in
     maps_fits begun
 
 pub overflow_add-written : goal.overflow_add-written
 overflow_add-written c =
-    let begun = begun_of (opened_of c.requires.input_len_bound c.requires.input_value c.requires.text_room_in_bounds) c.put_mti-written.ensures.size c.put_mti-written.ensures.writes in
+    let begun = begun_of (opened_of c.requires.short c.requires.read c.requires.room) c.put_mti-written.ensures.size c.put_mti-written.ensures.writes in
     let headed = headed_of begun c.put_named-written.ensures.size c.put_named-written.ensures.writes in
     omega (arith, headed_room headed)
 
 pub loop-at-init : goal.loop-at-init
 loop-at-init c =
-    let begun = begun_of (opened_of c.requires.input_len_bound c.requires.input_value c.requires.text_room_in_bounds) c.put_mti-written.ensures.size c.put_mti-written.ensures.writes in
+    let begun = begun_of (opened_of c.requires.short c.requires.read c.requires.room) c.put_mti-written.ensures.size c.put_mti-written.ensures.writes in
     let headed = headed_of begun c.put_named-written.ensures.size c.put_named-written.ensures.writes in
-    walked_first headed c.args.notes.now c.requires.notes_value
+    walked_first headed c.args.notes.now c.requires.noted
 
 pub slice_bounds-put_field-count : goal.slice_bounds-put_field-count
 slice_bounds-put_field-count c = omega (arith, c.loop-at.invariant.written.within)
@@ -62,7 +62,7 @@ overflow_add-written-in-Field c =
     let is_here :
     (note_at plain_form (drop c.loop-at.at c.args.notes.now)) ≡ Field c.in-Field.number c.in-Field.offset c.in-Field.length =
     note_part c.args.notes.now c.loop-at.at _ _ c.read_note.ensures c.in-Field.is in
-    omega (arith, c.put_field-written.ensures.size, field_within c.loop-at.invariant is_here, lines_room (opened_of c.requires.input_len_bound c.requires.input_value c.requires.text_room_in_bounds))
+    omega (arith, c.put_field-written.ensures.size, field_within c.loop-at.invariant is_here, lines_room (opened_of c.requires.short c.requires.read c.requires.room))
 
 pub overflow_add-at : goal.overflow_add-at
 overflow_add-at c =
@@ -95,18 +95,18 @@ put_named-requires c =
 pub overflow_add-result : goal.overflow_add-result
 overflow_add-result c =
     let is_here : (note_at plain_form (drop c.loop-at.at c.args.notes.now)) ≡ End c.in-End.field-0 = note_part c.args.notes.now c.loop-at.at _ _ c.read_note.ensures c.in-End.is in
-    omega (arith, (walked_end c.loop-at.invariant is_here c.put_named.ensures.size c.put_named.ensures.writes).0, lines_room (opened_of c.requires.input_len_bound c.requires.input_value c.requires.text_room_in_bounds))
+    omega (arith, (walked_end c.loop-at.invariant is_here c.put_named.ensures.size c.put_named.ensures.writes).0, lines_room (opened_of c.requires.short c.requires.read c.requires.room))
 
 pub shape_of-text-in-End : goal.shape_of-text-in-End
 shape_of-text-in-End c =
-    let begun = begun_of (opened_of c.requires.input_len_bound c.requires.input_value c.requires.text_room_in_bounds) c.put_mti-written.ensures.size c.put_mti-written.ensures.writes in
+    let begun = begun_of (opened_of c.requires.short c.requires.read c.requires.room) c.put_mti-written.ensures.size c.put_mti-written.ensures.writes in
     let headed = headed_of begun c.put_named-written.ensures.size c.put_named-written.ensures.writes in
     let is_here : (note_at plain_form (drop c.loop-at.at c.args.notes.now)) ≡ End c.in-End.field-0 = note_part c.args.notes.now c.loop-at.at _ _ c.read_note.ensures c.in-End.is in
     as_long _ _ _ (walked_end c.loop-at.invariant is_here c.put_named.ensures.size c.put_named.ensures.writes).1 c.loop-at.invariant.room ∙ headed_size headed
 
 pub returns-in-End : goal.returns-in-End
 returns-in-End c =
-    let begun = begun_of (opened_of c.requires.input_len_bound c.requires.input_value c.requires.text_room_in_bounds) c.put_mti-written.ensures.size c.put_mti-written.ensures.writes in
+    let begun = begun_of (opened_of c.requires.short c.requires.read c.requires.room) c.put_mti-written.ensures.size c.put_mti-written.ensures.writes in
     let headed = headed_of begun c.put_named-written.ensures.size c.put_named-written.ensures.writes in
     let is_here : (note_at plain_form (drop c.loop-at.at c.args.notes.now)) ≡ End c.in-End.field-0 = note_part c.args.notes.now c.loop-at.at _ _ c.read_note.ensures c.in-End.is in
     let e = walked_end c.loop-at.invariant is_here c.put_named.ensures.size c.put_named.ensures.writes in

@@ -18,10 +18,10 @@ pub put_reading-requires : goal.put_reading-requires
 put_reading-requires c = let g = sym c.read.ensures.answers ∙ c.in-Accepted.is in
     let m = answered (dialect house) c.args.input.now _ g in
     record {
-      input_len_bound = c.if-input-gt-INPUT_MOST.false;
-      input_value = m;
-      notes_value = noted (dialect house) c.args.input.now _ _ _ g c.read.ensures.writes;
-      text_room_in_bounds = c.if-text-lt-TEXT_ROOM.false;
+      short = c.if-input-gt-INPUT_MOST.false;
+      read = m;
+      noted = noted (dialect house) c.args.input.now _ _ _ g c.read.ensures.writes;
+      room = c.if-text-lt-TEXT_ROOM.false;
     }
 
 pub returns-in-Refused : goal.returns-in-Refused
