@@ -18,6 +18,7 @@ NAME = r"[A-Za-zμκ][A-Za-z0-9_₀-₉'′αβγκμσ-]*"
 TOKEN = re.compile(r'"(?:[^"\\]|\\.)*"|--[^\n]*|(?<![A-Za-z0-9_₀-₉\'-])' + NAME)
 RUST = re.compile(r'"(?:[^"\\]|\\.)*"|\'(?:[^\'\\]|\\.)\'|[A-Za-z_][A-Za-z0-9_]*')
 DECLARED = re.compile(r"^((?:(?:abbrev|unfoldable|pub|private|ruleset)\s+)*)(" + NAME + r") :", re.M)
+VOCABULARY = re.compile(r"^(--   )(\S.*?)( +)== (.*)$")
 FIELD = re.compile(r"^ +(?:(?:abbrev|unfoldable|pub)\s+)*(" + NAME + r") :", re.M)
 
 
@@ -88,6 +89,8 @@ def turn_antt(text, table, members):
         if t.startswith("--"):
             # A comment may quote the rules, whose LL and LLL are no names of ours, but where a line of the vocabulary begins with them.
             keep = () if re.match(r"--   LLL? ", t) else ("LL", "LLL")
+            # An English word may have a lemma's dash, so a lemma is meant only between backticks.
+            t = re.sub("`(" + NAME + ")`", lambda n: "`" + table.get(n.group(1), n.group(1)) + "`", t)
             return re.sub(NAME, lambda n: n.group(0) if "-" in n.group(0) or n.group(0) in keep else table.get(n.group(0), n.group(0)), t)
         return table.get(t, t)
     return TOKEN.sub(put, text)
@@ -95,6 +98,29 @@ def turn_antt(text, table, members):
 
 def turn_rust(text, table):
     return RUST.sub(lambda m: table.get(m.group(0), m.group(0)), text)
+
+
+# The lines of a vocabulary, `--   NAME  == MEANING`, and those that go on with one, keep their meanings in one column.
+def aligned(text):
+    lines = text.split("\n")
+    start = 0
+    while start < len(lines):
+        end = start
+        while end < len(lines) and (VOCABULARY.match(lines[end]) or end > start and re.match(r"--      +\S", lines[end])):
+            end += 1
+        heads = [m for m in map(VOCABULARY.match, lines[start:end]) if m]
+        if len({m.end(3) for m in heads}) > 1:
+            column = max(m.end(2) for m in heads) + 2
+            for at in range(start, end):
+                m = VOCABULARY.match(lines[at])
+                if m:
+                    moved = column - m.end(3)
+                    lines[at] = lines[at][: m.end(2)].ljust(column) + "== " + m.group(4)
+                else:
+                    words = lines[at][2:].lstrip()
+                    lines[at] = "--".ljust(max(len(lines[at]) - len(words) + moved, 6)) + words
+        start = max(end, start + 1)
+    return "\n".join(lines)
 
 
 # A projection is written tight.
@@ -130,7 +156,7 @@ def main():
         return 1
     for path in files("specs") + files("proofs"):
         text = open(path).read()
-        new = turn_antt(text, table, members)
+        new = aligned(turn_antt(text, table, members))
         if new != text:
             open(path, "w").write(new)
     camel = {k: v for k, v in table.items() if re.fullmatch(r"[A-Za-z]*[A-Z][A-Za-z0-9]*", k)}

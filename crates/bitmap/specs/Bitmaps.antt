@@ -12,10 +12,10 @@
 --   set_from s fs      == the set s with the fields fs, one after the other
 --   map_bit m s f      == bit f of m bitmaps for the set s: bits 1 and 65 follow from the count
 --   maps_for m s       == the 24 bytes of m bitmaps for the set s: eight for each, then zeros
---   chain on x        == the byte x with its first bit as `on` says
+--   chain on x         == the byte x with its first bit as `on` says
 --   map_byte m i x     == byte i of them, made from the byte x of the set
 --   maps_from m s k i  == k bytes of them, from byte i on
---   unchained i x     == byte i of bitmaps, x, without bits 1 and 65, which are no fields
+--   unchained i x      == byte i of bitmaps, x, without bits 1 and 65, which are no fields
 --   bit_numbers x f    == the numbers of the bits set in the byte x, whose high bit is number f, rising
 --
 -- Assumes nothing: these are definitions.

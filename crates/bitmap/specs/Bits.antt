@@ -1,11 +1,11 @@
 -- Bits of bytes. 01: "Bit f is counted from the high bit of the first byte, from 1."
 --
---   bit_in x i       == bit i of the byte x, counted from the high bit, from 0
---   bit_of s f       == bit f of the bytes s; there is no bit 0 and none past the end
+--   bit_in x i      == bit i of the byte x, counted from the high bit, from 0
+--   bit_of s f      == bit f of the bytes s; there is no bit 0 and none past the end
 --   bit p           == 1 where p is true, else 0
---   byte_of p f      == the byte whose bits are p f to p (f + 7), the first the highest
---   bytes_of p k f   == k such bytes, from p f on
---   with_bit x i     == the byte x with its bit i set
+--   byte_of p f     == the byte whose bits are p f to p (f + 7), the first the highest
+--   bytes_of p k f  == k such bytes, from p f on
+--   with_bit x i    == the byte x with its bit i set
 --
 -- Assumes nothing: these are definitions.
 use Rattle.std.specs.Prelude.{ℕ, zero, suc, ◌+◌, ◌-◌, ◌*◌, ◌/◌, ◌%◌, ◌^◌, Bool, true, false, cond, List, [], ◌∷◌, get_or, eqb}

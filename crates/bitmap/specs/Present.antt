@@ -1,7 +1,7 @@
 -- `fields_of`, which language and reader share, lists the fields present in bitmaps and nothing else, each once and rising.
 --
 --   is_rising last fs  == each of the numbers fs is above the one before it, and the first above last; so none stands there twice
---   ListsPresent      == what is said of the list, for any bytes s and any count m of bitmaps
+--   ListsPresent       == what is said of the list, for any bytes s and any count m of bitmaps
 --
 -- proofs/Present.antt proves it. Assumes nothing: these are a definition and a statement.
 use Rattle.std.specs.Prelude.{ℕ, ◌*◌, ◌≡◌, Bool, true, List, [], ◌∷◌, ltb}

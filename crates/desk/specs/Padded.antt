@@ -1,7 +1,7 @@
 -- The three words of a cleaning's answer lose nothing of its set of fields.
 --
---   bytes_in c         == the 24 bytes that the words of the answer c spell
---   SpellThePadded    == they are the padded set that the cleaning writer names, whatever the dialect and the call
+--   bytes_in c      == the 24 bytes that the words of the answer c spell
+--   SpellThePadded  == they are the padded set that the cleaning writer names, whatever the dialect and the call
 --
 -- proofs/Spelling.antt proves it.
 use Rattle.std.specs.Prelude.{ℕ, ◌≡◌, List, ◌++◌}

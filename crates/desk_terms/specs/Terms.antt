@@ -1,18 +1,18 @@
 -- The answers that other languages are handed: what an answer tells (01's number, field and position, and its values), member by member.
 --
---   reading t             == what a reading told, t, in numbers
---   written t             == what a writing or a conversion told
---   cleaned t s           == what a cleaning told that padded the set of fields s: what a writing tells, and s in three words
---   found t               == what a lookup told
---   translation t         == what carrying a message over the packed link told
---   measurement t         == what the decoding of a length told
---   judgement t           == what a check told
---   word_at s i            == the eight bytes of s from i on, as one number, the first the highest
---   number_of c            == the number of an encoding
---   by_encoding e k none   == k of the encoding whose number is e; none where e is the number of none
---   encoded_by e w n out   == the answer of writing the length n in w digits in the encoding of the number e
---   encoded_into e w n out == each byte of its output
---   decoded_by e w s       == the answer of reading s as a length of w digits in the encoding of the number e
+--   reading t               == what a reading told, t, in numbers
+--   written t               == what a writing or a conversion told
+--   cleaned t s             == what a cleaning told that padded the set of fields s: what a writing tells, and s in three words
+--   found t                 == what a lookup told
+--   translation t           == what carrying a message over the packed link told
+--   measurement t           == what the decoding of a length told
+--   judgement t             == what a check told
+--   word_at s i             == the eight bytes of s from i on, as one number, the first the highest
+--   number_of c             == the number of an encoding
+--   by_encoding e k none    == k of the encoding whose number is e; none where e is the number of none
+--   encoded_by e w n out    == the answer of writing the length n in w digits in the encoding of the number e
+--   encoded_into e w n out  == each byte of its output
+--   decoded_by e w s        == the answer of reading s as a length of w digits in the encoding of the number e
 --
 -- Assumes nothing: these are definitions.
 use Rattle.std.specs.Prelude.{ℕ, cond, List, get_or, take, drop, eqb}

@@ -1,11 +1,11 @@
 -- BCD, over the digit count: two digits to a byte, the first of them in the high half.
 --
 --   bytes_of n        == how many bytes n digits take: half of n, rounded up
---   evened s         == the digits s, with a leading `0` where their count is odd
---   paired s         == two digits to a byte
---   packed s         == the digits s in BCD
---   spread s         == the digits of both halves of each byte of s
---   unpacked n s     == n digits from the bytes s
+--   evened s          == the digits s, with a leading `0` where their count is odd
+--   paired s          == two digits to a byte
+--   packed s          == the digits s in BCD
+--   spread s          == the digits of both halves of each byte of s
+--   unpacked n s      == n digits from the bytes s
 --   is_bcd b          == neither half of the byte b is over 9
 --   spare_zero n s    == where n is odd, the spare leading digit of s is 0
 --   encode_fault s    == 01's number of the test that s fails as a source of digits, or 0

@@ -2,13 +2,13 @@
 --
 --   table           == the meaning of each EBCDIC byte, in the order of the bytes
 --   Permutes t      == t is a permutation of the 256 byte values
---   place_in x t     == the first place of x in the list t, or t's length where it has none
---   entry_in t b     == the entry of the list t at b; 256, which is no byte, where it has none
---   ascii_of b       == the meaning of the EBCDIC byte b; 256, which is no byte, where b is none
---   ebcdic_of x      == the EBCDIC byte whose meaning is x
---   means_ascii b    == the meaning of b is ASCII
---   encode_fault s   == 01's number of the test that s fails as a source of ASCII text, or 0
---   decode_fault s   == 01's number of the test that s fails as a source of EBCDIC text, or 0
+--   place_in x t    == the first place of x in the list t, or t's length where it has none
+--   entry_in t b    == the entry of the list t at b; 256, which is no byte, where it has none
+--   ascii_of b      == the meaning of the EBCDIC byte b; 256, which is no byte, where b is none
+--   ebcdic_of x     == the EBCDIC byte whose meaning is x
+--   means_ascii b   == the meaning of b is ASCII
+--   encode_fault s  == 01's number of the test that s fails as a source of ASCII text, or 0
+--   decode_fault s  == 01's number of the test that s fails as a source of EBCDIC text, or 0
 --
 -- Assumes nothing: these are definitions.
 use Rattle.std.specs.Prelude.{ℕ, zero, suc, ◌<◌, ◌≡◌, Bool, cond, List, [], ◌∷◌, length, get_or, eqb}

@@ -2,14 +2,14 @@
 --
 --   is_width w            == w is a digit count that an indicator may have
 --   size_of e w           == how many bytes w digits take in the encoding e
---   spelt e t            == the ASCII digits t in the encoding e
+--   spelt e t             == the ASCII digits t in the encoding e
 --   text_of e w s         == the w characters that the bytes s spell in the encoding e, in ASCII
 --   encode_fault w n      == 01's number of the test that the length n fails for w digits, or 0
 --   ascii_fault s         == 01's number of the test that s fails as ASCII text, or 0
 --   alphabet_fault e w s  == 01's number of the test that s fails as text of the encoding e, or 0
 --   decode_fault e w s    == 01's number of the first test that s fails as an indicator of w digits, or 0
 --   told_length r         == what decoding's answer tells; its value is the length
---   measured e w s       == what decoding s answers: the number that its digits spell, or a refusal
+--   measured e w s        == what decoding s answers: the number that its digits spell, or a refusal
 --
 -- Assumes nothing: these are definitions.
 use Rattle.std.specs.Prelude.{ℕ, ◌^◌, Bool, cond, List, [], ◌∷◌, map, length, eqb, ltb}

@@ -1,11 +1,11 @@
 -- 01's classes: which contents each allows.
 --
---   is_letter x      == x is one of the 52 ASCII letters
---   is_visible x     == x is 0x20 to 0x7E
---   is_sign x        == x is `C` or `D`
---   allows c x      == the byte x may stand in a content of class c (x+n: after its sign)
---   signed s        == s is a sign, then none or more digits
---   conforms c s    == the content s is of class c
+--   is_letter x   == x is one of the 52 ASCII letters
+--   is_visible x  == x is 0x20 to 0x7E
+--   is_sign x     == x is `C` or `D`
+--   allows c x    == the byte x may stand in a content of class c (x+n: after its sign)
+--   signed s      == s is a sign, then none or more digits
+--   conforms c s  == the content s is of class c
 --
 -- Assumes nothing: these are definitions.
 use Rattle.std.specs.Prelude.{ℕ, Bool, true, false, not, List, [], ◌∷◌, eqb}

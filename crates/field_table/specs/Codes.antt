@@ -1,9 +1,9 @@
 -- A table as data: one number, a code, for each field, by number from 0 on. It is what readers and writers are lent.
 --
---   class_by_code k   == the class whose number is k: n 1, a 2, an 3, ans 4, ns 5, z 6, x+n 7; b for any other number
+--   class_by_code k  == the class whose number is k: n 1, a 2, an 3, ans 4, ns 5, z 6, x+n 7; b for any other number
 --   code_in cs f     == the code of field f; 0 where there is none
---   decoded cs      == the table that the codes stand for: a code is the length or greatest length, below 1024, 1024 times the number of
---                      length digits, and 4096 times the number of the class. A number that no code has is fixed, 0 bytes, class b
+--   decoded cs       == the table that the codes stand for: a code is the length or greatest length, below 1024, 1024 times the number of
+--                       length digits, and 4096 times the number of the class. A number that no code has is fixed, 0 bytes, class b
 --   house_codes      == the house table's codes; shown to stand for `house` (proofs/Decoded.antt)
 --
 -- Assumes nothing: these are definitions.

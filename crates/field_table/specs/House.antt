@@ -1,6 +1,6 @@
 -- The house table, row by row as 01's "Field table" has it (ISO 8583:1987, and the house fields 129-192), as 02 amends it.
 --
---   house_rows   == 01's rows, in its order; 55 by 02
+--   house_rows  == 01's rows, in its order; 55 by 02
 --   house       == the table that they make
 --
 -- Assumes nothing: these are definitions.

@@ -1,18 +1,18 @@
 -- A field table: what is known of a field by its number. Every definition of language, reader, writers and the field check takes a table.
 --
---   Table            == width f: how many length digits field f has (0 fixed, 2 LL, 3 LLL);
---                       most f: its length where it is fixed, else its greatest; class f: its class
---   Row              == the fields from first to last, which are alike in width, most and class
---   row w a b m c    == the fields a to b have w length digits, length or greatest length m, and class c
---   fixed a b m c    == the fields a to b are m bytes long, of class c
---   ll a b m c       == they have two length digits and are up to m bytes long
---   lll a b m c      == the same with three
---   none             == the row of a number that no row has: fixed, 0 bytes, class b
---   find rows f      == the first row that has field f; `none` where no row has it
---   table_of rows     == the table that the rows make
---   is_binary c       == contents of class c may hold any byte; those of the others are text
---   Small t          == what the theorems ask of a table: at most three length digits, no length over 999, and the lengths of a variable field
---                       can be spelt in its digits. The house table is small (proofs/Rows.antt)
+--   Table          == width f: how many length digits field f has (0 fixed, 2 LL, 3 LLL);
+--                     most f: its length where it is fixed, else its greatest; class f: its class
+--   Row            == the fields from first to last, which are alike in width, most and class
+--   row w a b m c  == the fields a to b have w length digits, length or greatest length m, and class c
+--   fixed a b m c  == the fields a to b are m bytes long, of class c
+--   ll a b m c     == they have two length digits and are up to m bytes long
+--   lll a b m c    == the same with three
+--   none           == the row of a number that no row has: fixed, 0 bytes, class b
+--   find rows f    == the first row that has field f; `none` where no row has it
+--   table_of rows  == the table that the rows make
+--   is_binary c    == contents of class c may hold any byte; those of the others are text
+--   Small t        == what the theorems ask of a table: at most three length digits, no length over 999, and the lengths of a variable field
+--                     can be spelt in its digits. The house table is small (proofs/Rows.antt)
 --
 -- Assumes nothing: these are definitions.
 use Rattle.std.specs.Prelude.{ℕ, ◌^◌, ◌≤◌, ◌<◌, ◌≡◌, List, [], ◌∷◌, Bool, true, false, leb}

@@ -1,19 +1,19 @@
 -- Writing one field of a table t: whether its content s may be written, what it takes, and its bytes.
 --
---   is_allowed_length t f n == a content of field f may be n bytes long: exactly the table's length where it is fixed, else up to that
---   text_fault c s         == 8 where s is text by its class c and has a byte over 0x7F, else 0
---   exact_fault t f s      == why the exact writer refuses the content s of field f: 12, then 8; 0 where it does not
---   clean_fault t f s      == the same of the cleaning writer
---   is_short t f n         == field f is fixed, and n is under its length
---   missing t f n         == by how many bytes a content of n bytes is too short; a variable one never is
---   pad_byte c             == the byte that contents of class c are padded with
---   pads_left c            == they are padded on the left
---   padded c k s          == s with k bytes of padding, as its class c has it
---   cleaned t f s         == s as it stands in field f once it is written: padded by what is missing
---   field_bytes t f s      == the bytes of field f with the content s: its length digits, of which a fixed field has none, then the content
---   field_into t f s out   == out afterwards where field f is to be written to its front: left as it is where s is too long, or the bytes do not fit
---   written_size t f n     == how many bytes field f takes with a content of n bytes
---   longest               == the greatest length of a content that a note can hold, in two bytes
+--   is_allowed_length t f n  == a content of field f may be n bytes long: exactly the table's length where it is fixed, else up to that
+--   text_fault c s           == 8 where s is text by its class c and has a byte over 0x7F, else 0
+--   exact_fault t f s        == why the exact writer refuses the content s of field f: 12, then 8; 0 where it does not
+--   clean_fault t f s        == the same of the cleaning writer
+--   is_short t f n           == field f is fixed, and n is under its length
+--   missing t f n            == by how many bytes a content of n bytes is too short; a variable one never is
+--   pad_byte c               == the byte that contents of class c are padded with
+--   pads_left c              == they are padded on the left
+--   padded c k s             == s with k bytes of padding, as its class c has it
+--   cleaned t f s            == s as it stands in field f once it is written: padded by what is missing
+--   field_bytes t f s        == the bytes of field f with the content s: its length digits, of which a fixed field has none, then the content
+--   field_into t f s out     == out afterwards where field f is to be written to its front: left as it is where s is too long, or the bytes do not fit
+--   written_size t f n       == how many bytes field f takes with a content of n bytes
+--   longest                  == the greatest length of a content that a note can hold, in two bytes
 --
 -- Assumes nothing: these are definitions.
 use Rattle.std.specs.Prelude.{ℕ, ◌+◌, ◌-◌, Bool, true, false, cond, List, ◌++◌, eqb, leb, ltb, length, replicate}

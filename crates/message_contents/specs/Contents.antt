@@ -1,20 +1,20 @@
 -- Fields with their contents, apart from any notes: where contents lie in a buffer of values, the message that they make, and where they
 -- stand in it. Over any table.
 --
---   Content                   == a field with its content: its number and the bytes
---   content f c               == field f with the content c
---   content_of v o n           == the n bytes of the values v at o
---   contents_in v es           == the fields of the entries es with their contents, which lie in the values v
---   numbers_of es              == the numbers of the entries es
---   numbers_in cs              == the numbers of the fields cs
---   number_allowed m last f    == f may follow the number last where there are m bitmaps
---   spelt t cs                == the fields cs, one after the other: length digits, of which a fixed field has none, and content
---   bitmaps_with m fs          == the m bitmaps that name the fields fs
---   message_with t mti m cs    == the message of the fields cs: MTI, m bitmaps that name them, the fields
---   standing t at cs          == where the contents of cs stand in a message whose fields begin at the place `at`
---   reading_of t mti m cs      == the reading of that message
---   cleaned_in t cs            == the fields cs, each with its content padded where it is short
---   short_in t es              == the numbers of the fixed fields among the entries es whose contents are too short
+--   Content                  == a field with its content: its number and the bytes
+--   content f c              == field f with the content c
+--   content_of v o n         == the n bytes of the values v at o
+--   contents_in v es         == the fields of the entries es with their contents, which lie in the values v
+--   numbers_of es            == the numbers of the entries es
+--   numbers_in cs            == the numbers of the fields cs
+--   number_allowed m last f  == f may follow the number last where there are m bitmaps
+--   spelt t cs               == the fields cs, one after the other: length digits, of which a fixed field has none, and content
+--   bitmaps_with m fs        == the m bitmaps that name the fields fs
+--   message_with t mti m cs  == the message of the fields cs: MTI, m bitmaps that name them, the fields
+--   standing t at cs         == where the contents of cs stand in a message whose fields begin at the place `at`
+--   reading_of t mti m cs    == the reading of that message
+--   cleaned_in t cs          == the fields cs, each with its content padded where it is short
+--   short_in t es            == the numbers of the fixed fields among the entries es whose contents are too short
 --
 -- Assumes nothing: these are definitions.
 use Rattle.std.specs.Prelude.{ℕ, ◌+◌, ◌*◌, Bool, cond, List, [], ◌∷◌, ◌++◌, leb, ltb, length, take, drop}

@@ -14,16 +14,16 @@
 -- `RefusedMessages` in worked_table/specs/Refused.antt where refused).
 --
 --   the table   == 01's rows, as 02 amends them (field_table/specs/House.antt): one for each field, none for another number (proofs/Table.antt)
---   is_binary    == a line for each class; 0xFF in a field of class b is accepted (`binary-ends` of `OtherMessages`), 0x80 in one of class an
---                  refused (`RefusedText` in worked_table)
---   is_ascii     == a range, of which 0x00 and 0x7F are shown to be in it (`text-ends` of `OtherMessages`) and 0x80 not (`RefusedText`)
---   is_digit     == a range, of which `0` and `9` are shown to be in it (cases 3 and 4), and `+` not (case 5). Were any other byte a digit, exact
---                  writing would not give back the length digits read (`GivesBack` in round_trip/specs/RoundTrip.antt)
---   decimal_of   == it reads back each number that `decimal` spells (`number_digits` in octets/proofs/Numbers.antt); `19` in case 4, `105` in
---                  `two_fields` of `OtherMessages`
---   bitOf       == the bytes that are made of its bits, the first the highest, are the bytes themselves (`bytes-of-bits` in
---                  bitmap/proofs/Bits.antt); bits 1, 2, 3, 65 and 70 in cases 2, 3, 6, 7 and 8, and 39, 48, 49, 55 and 192 in `OtherMessages`
---   fields_of    == exactly the fields whose bits are set, rising, each once (`ListsPresent` in bitmap/specs/Present.antt)
+--   is_binary   == a line for each class; 0xFF in a field of class b is accepted (`binary_ends` of `OtherMessages`), 0x80 in one of class an
+--                 refused (`RefusedText` in worked_table)
+--   is_ascii    == a range, of which 0x00 and 0x7F are shown to be in it (`text_ends` of `OtherMessages`) and 0x80 not (`RefusedText`)
+--   is_digit    == a range, of which `0` and `9` are shown to be in it (cases 3 and 4), and `+` not (case 5). Were any other byte a digit, exact
+--                 writing would not give back the length digits read (`GivesBack` in round_trip/specs/RoundTrip.antt)
+--   decimal_of  == it reads back each number that `decimal` spells (`number_digits` in octets/proofs/Numbers.antt); `19` in case 4, `105` in
+--                 `two_fields` of `OtherMessages`
+--   bit_of      == the bytes that are made of its bits, the first the highest, are the bytes themselves (`bytes_of_bits` in
+--                 bitmap/proofs/Bits.antt); bits 1, 2, 3, 65 and 70 in cases 2, 3, 6, 7 and 8, and 39, 48, 49, 55 and 192 in `OtherMessages`
+--   fields_of   == exactly the fields whose bits are set, rising, each once (`ListsPresent` in bitmap/specs/Present.antt)
 --
 -- `count_of` is the language's alone: the reader finds one bitmap after the other (`bitmaps_read` in bitmap_read/specs/Found.antt). The types
 -- Entry and Reading are the reader's too.

@@ -1,19 +1,19 @@
 -- What the reader, the walk over notes and the writers are defined over: the table, how many bitmaps are taken, and how a field's note
 -- looks. A later rule of the desk is another value of these.
 --
---   Form            == how the note of a field is laid out. kind: its first byte. Behind it stand the field's number (1), the offset of
---                      its content (4) and its length (2); then `extra` bytes, which spell the number `mark f` in the note of field f
---   plain_form       == 01's: kind 0x02, and nothing behind the length
---   note_size F      == how long a field's note of the form F is
+--   Form         == how the note of a field is laid out. kind: its first byte. Behind it stand the field's number (1), the offset of
+--                   its content (4) and its length (2); then `extra` bytes, which spell the number `mark f` in the note of field f
+--   plain_form   == 01's: kind 0x02, and nothing behind the length
+--   note_size F  == how long a field's note of the form F is
 --   head_kind, end_kind
 --                   == the first byte of the head and of the end
 --   head_size, end_size
 --                   == how long they are
---   Dialect         == table: the fields; most: the greatest count of bitmaps that is taken; form: the form of a field's note
---   dialect t       == the desk's, by the table t: 01's three bitmaps and its notes
---   notes_room d     == what the notes of any message fit in: a head, a note for each number of the bitmaps but 1 and 65, and an end
---   Sound d         == what the theorems ask of a dialect: the table is small, two or three bitmaps are taken, a field's note is not taken
---                      for the end, and its mark can be spelt. `dialect house` is sound (proofs/Sound.antt)
+--   Dialect       == table: the fields; most: the greatest count of bitmaps that is taken; form: the form of a field's note
+--   dialect t     == the desk's, by the table t: 01's three bitmaps and its notes
+--   notes_room d  == what the notes of any message fit in: a head, a note for each number of the bitmaps but 1 and 65, and an end
+--   Sound d       == what the theorems ask of a dialect: the table is small, two or three bitmaps are taken, a field's note is not taken
+--                    for the end, and its mark can be spelt. `dialect house` is sound (proofs/Sound.antt)
 --
 -- Assumes nothing: these are definitions.
 use Rattle.std.specs.Prelude.{ℕ, ◌+◌, ◌-◌, ◌*◌, ◌^◌, ◌≤◌, ◌<◌, ◌≡◌}

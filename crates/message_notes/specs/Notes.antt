@@ -6,7 +6,7 @@
 --   field_notes F es      == a field note for each entry, in order
 --   notes_of F r u        == "One head, field notes in rising number, one end note" of the reading r of a message u bytes long
 --   is_head n             == the notes n begin with a whole head
---   mti_in n, count_in n   == the MTI and the count of bitmaps in it
+--   mti_in n, count_in n  == the MTI and the count of bitmaps in it
 --   mti_place n           == where its MTI stands; 0 where the notes are too short for a head
 --   entry_of bs           == the entry that the bytes of a field note spell
 --   entry_at F n i        == the entry of the field note i, from 0, in the notes n

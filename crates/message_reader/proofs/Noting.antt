@@ -17,7 +17,8 @@ use Rattle.field_read.specs.declared.FieldRead.TheVariants.{Content, Refused as 
 use Rattle.bitmap.specs.Bitmaps.{fields_of}
 use Rattle.bitmap.proofs.Fields.{fields_few, fields_in_lem}
 use Rattle.bitmap_read.specs.Found.{maps_of}
-use Rattle.message_notes.specs.Dialect.{Form, note_size, Dialect}
+use Rattle.message_language.specs.Language.{Entry}
+use Rattle.message_notes.specs.Dialect.{Form, note_size, Dialect, dialect, plain_form}
 use Rattle.message_notes.specs.Notes.{field_note, field_notes}
 use Rattle.message_notes.proofs.Sizes.{field_long, fields_long}
 use Rattle.message_reader.specs.declared.FieldsRead.TheVariants.{Used}
@@ -119,6 +120,12 @@ module _ (t : Table) (s fs : List ℕ) (k : ℕ) (is : fs ≡ fields_of (maps_of
   pub entries_are : entries_of t (4 + 8 * k) fs (drop (4 + 8 * k) s) ≡ (reading_with t s k).entries
   unfolding reading_with
   entries_are = rw is
+
+  -- z is how many bytes their notes take
+  pub written_few : (z : ℕ) → k ≤ (dialect t).most → z ≡ length (field_notes plain_form (entries_of t (4 + 8 * k) fs (drop (4 + 8 * k) s)))
+      → z ≤ note_size plain_form * (64 * (dialect t).most - 2)
+  written_few z few e =
+      omega (arith, e, ap (λ (es : List Entry). length (field_notes plain_form es)) entries_are, notes_few (dialect t) s k (omega arith) few)
 
 pub list_is : (s : List ℕ) (k n : ℕ) (numbers d : List ℕ) → k ≤ 3 → n ≡ length (fields_of (take (4 + 8 * k - 4) (drop 4 s)) 3)
     → numbers ≡ lay (fields_of (take (4 + 8 * k - 4) (drop 4 s)) 3) d → take n numbers ≡ fields_of (maps_of 4 s k) k

@@ -3,7 +3,7 @@
 --   any f c         == nothing is asked of a content, as by lookup
 --   asked t r       == what the rule r asks of the content of a field, by the table t: from its number and content to 01's number, or 0
 --   within v q      == the content must lie within the values v, and is then asked about by q
---   fault_by t v r   == both, by the rule r
+--   fault_by t v r  == both, by the rule r
 --
 -- Assumes nothing: these are definitions.
 use Rattle.std.specs.Prelude.{ℕ, ◌+◌, cond, List, leb, length}

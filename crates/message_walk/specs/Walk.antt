@@ -1,8 +1,8 @@
 -- The walk over notes that lookup, both writers and the required check share. 01: "Writers walk the notes; head: 9 then 3; field: 9, 10,
 -- 11, …; end: 9, …"; "Lookup walks head 9, 3, fields 9, 10, 11, end 9". What is asked of a field besides its note is a parameter.
 --
---   Fault                     == what is asked of a field that a note names: from its entry to 01's number for what is wrong, or 0
---   head_number m n            == 0 where the notes n begin with a good head and at most m bitmaps, else 9, 27 or 3
+--   Fault            == what is asked of a field that a note names: from its entry to 01's number for what is wrong, or 0
+--   head_number m n  == 0 where the notes n begin with a good head and at most m bitmaps, else 9, 27 or 3
 --   judged_field b p m last f o n
 --                             == what a field's note is found to be by p, with the number f, the offset o and the length n, where there are
 --                                m bitmaps and last is the number before it; b: its mark is that of its field
@@ -11,11 +11,11 @@
 --                                count, and the length of the notes is always enough
 --   ending F p m k last at s  == how the walk ends, where s stands at the place `at`; k bounds the notes still to be judged, as in `passed`
 --   walked d p n              == how the walk over the notes n ends, by the dialect d
---   entries_in d p n           == the entries that it passes
---   fields_on w es             == the set of the fields of the entries es, where the walk that passed them ended as w says: empty on refusal
---   fields_in d p n            == the set of the fields that the walk over n passes
---   listed_from F k s          == the entries of the field notes at the front of s, k at most, up to the first note that is none: nothing is judged
---   listed_in F n              == those behind the head of the notes n
+--   entries_in d p n          == the entries that it passes
+--   fields_on w es            == the set of the fields of the entries es, where the walk that passed them ended as w says: empty on refusal
+--   fields_in d p n           == the set of the fields that the walk over n passes
+--   listed_from F k s         == the entries of the field notes at the front of s, k at most, up to the first note that is none: nothing is judged
+--   listed_in F n             == those behind the head of the notes n
 --
 -- Assumes nothing: these are definitions.
 use Rattle.std.specs.Prelude.{ℕ, zero, suc, ◌+◌, Bool, cond, List, [], ◌∷◌, length, drop, eqb, leb}

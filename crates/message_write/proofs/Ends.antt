@@ -146,6 +146,10 @@ module _ (t : Table) (v n s : List ℕ) (asked : Asked t v n s) where
   pub asked_size : Bounded t → (size : ℕ) → size ≡ size_in t es → length (message_of t v (mti_in n) m es) ≡ 4 + 8 * m + size
   asked_size small size e = omega (arith, asked_long, e, body_size t v m es small (cleared t v n es asked.clean))
 
+  -- the count is k, and the output d bytes long
+  pub asked_room : (k d : ℕ) → k ≡ m → length (message_of t v (mti_in n) m es) ≤ d → (k ≤ 3) × (4 + 8 * k + length (body_of t v es) ≤ d)
+  asked_room k d counted room = (omega (arith, asked_head.three), omega (arith, asked_long))
+
   -- the count is k, mti is the MTI's part of the notes, and maps are the bitmaps made for the set s
   module _ (k : ℕ) (counted : k ≡ m) (mti : List ℕ) (part : mti ≡ cond (leb head_size (length n)) (mti_in n) []) (maps : List ℕ) (made : maps ≡ maps_for (min k 3) s) where
     mti_is : mti ≡ mti_in n

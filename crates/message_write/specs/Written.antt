@@ -1,17 +1,17 @@
 -- What the exact and the cleaning writer answer, write and name as padded, by the dialect d, from the values v and the notes n, where the
 -- output holds out.
 --
---   exactly d v, cleanly d v    == what their walks ask of a field that a note names
---   exact_message d v n          == the message that the exact writer is to write: the contents that the notes name, as they are
---   clean_message d v n          == the same of the cleaning writer: each content padded where it is short
---   answered w bytes out        == the answer of a writer whose walk ended as w says and which is to write the bytes
---   laid_out w bytes out         == each byte of its output
---   exact_answer d v n out       == what the exact writer answers
---   exact_output d v n out       == each byte of its output
---   clean_answer d v n out       == what the cleaning writer answers
---   clean_output d v n out       == each byte of its output
---   padded_on o s                == the fields padded by a writer that answered o and was to pad the set s: none on refusal
---   clean_padded d v n out       == the set of fields that the cleaning writer padded, as 24 bytes of bits; all zero on refusal
+--   exactly d v, cleanly d v  == what their walks ask of a field that a note names
+--   exact_message d v n       == the message that the exact writer is to write: the contents that the notes name, as they are
+--   clean_message d v n       == the same of the cleaning writer: each content padded where it is short
+--   answered w bytes out      == the answer of a writer whose walk ended as w says and which is to write the bytes
+--   laid_out w bytes out      == each byte of its output
+--   exact_answer d v n out    == what the exact writer answers
+--   exact_output d v n out    == each byte of its output
+--   clean_answer d v n out    == what the cleaning writer answers
+--   clean_output d v n out    == each byte of its output
+--   padded_on o s             == the fields padded by a writer that answered o and was to pad the set s: none on refusal
+--   clean_padded d v n out    == the set of fields that the cleaning writer padded, as 24 bytes of bits; all zero on refusal
 --
 --   body_of t v es               == the fields of the entries es with their contents padded where they are short, one after the other
 --   message_of t v mti m es      == the message of them

@@ -2,13 +2,13 @@
 --
 --   digits b z w n   == n in w digits of the base b, the highest first, the digit d as the byte z + d
 --   number b z a s   == the number that the bytes s spell in the base b, after the number a
---   is_digit x        == x is one of the ASCII digits, `0` to `9`
---   are_digits n s    == s is n bytes long, and each is an ASCII digit
---   is_ascii x        == x is an ASCII byte, up to 0x7F
+--   is_digit x       == x is one of the ASCII digits, `0` to `9`
+--   are_digits n s   == s is n bytes long, and each is an ASCII digit
+--   is_ascii x       == x is an ASCII byte, up to 0x7F
 --   decimal w n      == n in w ASCII digits
---   decimal_of s      == the number that the ASCII digits s spell
---   big_endian w n    == n in w bytes
---   big_endian_of s    == the number that the bytes s spell
+--   decimal_of s     == the number that the ASCII digits s spell
+--   big_endian w n   == n in w bytes
+--   big_endian_of s  == the number that the bytes s spell
 --
 -- Assumes nothing: these are definitions.
 use Rattle.std.specs.Prelude.{ℕ, zero, suc, ◌+◌, ◌-◌, ◌*◌, ◌/◌, ◌%◌, Bool, List, [], ◌∷◌, ◌++◌, length, eqb}

@@ -2,7 +2,7 @@
 --
 --   digits_within k n  == how many decimal digits n has, at least one: no more than k are counted behind the first
 --   digit_count n      == how many decimal digits n has, at least one; it never has more than n of them behind the first
---   numeral n         == n in so many ASCII digits
+--   numeral n          == n in so many ASCII digits
 --
 -- That numerals spell their number and have no leading zero is proved in proofs/Numerals.antt.
 -- Assumes nothing: these are definitions.

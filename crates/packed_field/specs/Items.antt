@@ -2,20 +2,20 @@
 -- classes as in the plain form"; "Other refusals, positions and order are the reader's, with 22 in the places … of 3 and 6 and, for packed
 -- `n` contents, of 8; 21 likewise of 8 for plain ones".
 --
---   is_numeric c          == contents of class c are digits: class n and no other
---   content_size S c n    == how many bytes a content of n digits (class n) or n bytes takes
---   is_content S c n s    == the bytes s are such a content: digits, text or any bytes, as the class has it
---   length_fault S        == the refusal of length digits that are none
---   digits_fault S        == the refusal of a content of class n that is no digits
---   content_fault S c     == the refusal of a content that is none of its class
---   Found a n k j        == the length digits take a bytes, the content has n digits or bytes and takes the next k, and in the other script both
---                           take j
---   place_by S w m c s    == where a field with w length digits, length or greatest length m, and class c stands at the front of s; no byte of
---                           the content is asked about
---   place_sized ..        == the same once the content's length n is known
---   place_item S t f s    == the same of field f of the table t
---   judged_as S c s i     == the item i, once its content is asked about too
---   judge_item S t f s    == that of field f of the table t
+--   is_numeric c        == contents of class c are digits: class n and no other
+--   content_size S c n  == how many bytes a content of n digits (class n) or n bytes takes
+--   is_content S c n s  == the bytes s are such a content: digits, text or any bytes, as the class has it
+--   length_fault S      == the refusal of length digits that are none
+--   digits_fault S      == the refusal of a content of class n that is no digits
+--   content_fault S c   == the refusal of a content that is none of its class
+--   Found a n k j       == the length digits take a bytes, the content has n digits or bytes and takes the next k, and in the other script both
+--                          take j
+--   place_by S w m c s  == where a field with w length digits, length or greatest length m, and class c stands at the front of s; no byte of
+--                         the content is asked about
+--   place_sized ..      == the same once the content's length n is known
+--   place_item S t f s  == the same of field f of the table t
+--   judged_as S c s i   == the item i, once its content is asked about too
+--   judge_item S t f s  == that of field f of the table t
 --
 -- Assumes nothing: these are definitions.
 use Rattle.std.specs.Prelude.{ℕ, ◌+◌, ◌-◌, Bool, true, false, cond, List, ltb, length, take, drop}

@@ -1,13 +1,13 @@
 -- Digits as they stand in a message, in either script: plain, an ASCII byte for each, or packed, in BCD. 02, P3: "MTI in two BCD bytes, …
 -- LL in one BCD byte and LLL in two, `n` contents in BCD with a leading zero half-byte when odd".
 --
---   other S              == the other script
+--   other S               == the other script
 --   size_of S n           == how many bytes n digits take
 --   is_spelt S n s        == the bytes s are n digits
 --   is_part S x           == the byte x holds digits and nothing else
 --   digits_of S n s       == the n digits that the bytes s spell, as ASCII bytes
 --   spelt_in S d          == the bytes that spell the ASCII digits d
---   carried S n s        == the n digits of the bytes s, in the other script
+--   carried S n s         == the n digits of the bytes s, in the other script
 --   carried_into S n s o  == o afterwards where they are to be written to its front: left as it is where the BCD conversion of s is refused, or they do not
 --                           fit. In the plain script n is not asked
 --

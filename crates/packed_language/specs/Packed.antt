@@ -7,10 +7,10 @@
 --   AllDigits t cs      == the contents of class n among the fields cs are digits
 --   Parts               == a message apart from its form: the four digits of its MTI, its bitmaps, and its fields with their contents
 --   IsMessage t m p     == p is such a message, with at most m bitmaps
---   plain_bytes t p      == its plain form: MTI, bitmaps, and for each field its length digits, of which a fixed one has none, and its content
---   packed_content c x   == the content x of class c in the packed form
---   packed_fields t cs   == the fields cs in the packed form, one after the other
---   packed_bytes t p     == its packed form
+--   plain_bytes t p     == its plain form: MTI, bitmaps, and for each field its length digits, of which a fixed one has none, and its content
+--   packed_content c x  == the content x of class c in the packed form
+--   packed_fields t cs  == the fields cs in the packed form, one after the other
+--   packed_bytes t p    == its packed form
 --   Starts s bs u       == the input s begins with the bytes bs, of which there are u
 --
 -- `packed d` is the BCD of the digits d, a leading zero half-byte where their count is odd (encoding_bcd/specs/Bcd.antt); `decimal w n` is n in w

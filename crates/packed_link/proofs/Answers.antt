@@ -14,6 +14,7 @@ use Rattle.bitmap_read.specs.declared.BitmapsRead.TheVariants.{Count, Refused as
 use Rattle.bitmap_read.specs.Found.{maps_of}
 use Rattle.packed_field.specs.declared.Script.{Script}
 use Rattle.packed_field.specs.Scripts.{other, size_of, carried}
+use Rattle.packed_link.specs.declared.Judged.{Judged}
 use Rattle.packed_link.specs.declared.Judged.TheVariants.{Good, Refused as JudgedBad}
 use Rattle.packed_link.specs.declared.Translated.{Translated}
 use Rattle.packed_link.specs.declared.Translated.TheVariants.{Done, Refused}
@@ -62,6 +63,16 @@ module _ (S : Script) (t : Table) (s fs : List ℕ) (k : ℕ) (is : fs ≡ field
   pub body_is : (a b : ℕ) → a ≡ size_of S 4 + 8 * k → b ≡ size_of (other S) 4 + 8 * k → fields_judged S t a b fs (drop a s) ≡ body_judged S t s k
   unfolding body_judged
   body_is a b ea eb = rw (is, ea, eb)
+
+  -- r is what judging the fields answered; x and y are the sizes of the MTI in either script, of which o is the other
+  pub body_said : (r : Judged) (x y : ℕ) (o : Script) → x ≡ size_of S 4 → o ≡ other S → y ≡ size_of o 4
+      → r ≡ fields_judged S t (x + 8 * k) (y + 8 * k) fs (drop (x + 8 * k) s) → body_judged S t s k ≡ r
+  body_said r x y o ex eo ey e =
+      sym (
+      e
+      ∙ body_is (x + 8 * k) (y + 8 * k) (ap (λ (z : ℕ). z + 8 * k) ex)
+      (ap (λ (z : ℕ). z + 8 * k) (ey ∙ ap (λ (q : Script). size_of q 4) eo))
+      )
 
   pub carried_is : (a : ℕ) → a ≡ size_of S 4 + 8 * k → carried S 4 (take (size_of S 4) s) ++ (maps_of (size_of S 4) s k ++ fields_carried S t fs (drop a s)) ≡ body_carried S t s k
   unfolding body_carried

@@ -2,20 +2,20 @@
 -- P3: "translation either way into a lent output, answering bytes used and bytes written. 1 isn't tested; a packed input under 10 bytes is
 -- 2; …; 14 comes last. Other refusals, positions and order are the reader's".
 --
---   told_link a               == what its answer tells; its values are the bytes used and the bytes written
---   mti_fault S               == the refusal of an MTI that is not digits
---   link_head S m s           == how many bitmaps an input has, at most m, or the refusal of its length, its MTI or its bitmaps
---   content_carried S c n x   == the content x of class c, n digits or bytes long, in the other script
---   item_carried S t f a n k s == field f in the other script: its length digits take a bytes of s, its content the next k
---   fields_judged S t at w fs s == judging the fields fs one after the other, the first at the place `at`, where s begins, and w bytes of
---                               output before them: the places after the last
---   fields_carried S t fs s   == those that are judged before a refusal, in the other script
---   body_judged S t s k       == judging all fields of an input with k bitmaps
---   body_carried S t s k      == such an input in the other script: MTI, bitmaps as they are, fields
---   link_judged S t m s       == judging an input with at most m bitmaps: the bytes used and to be written, or the refusal
---   link_carried S t m s      == its message in the other script
---   link_answer S t m s out   == the answer, where the output holds out
---   link_output S t m s out   == each byte of the output afterwards
+--   told_link a                  == what its answer tells; its values are the bytes used and the bytes written
+--   mti_fault S                  == the refusal of an MTI that is not digits
+--   link_head S m s              == how many bitmaps an input has, at most m, or the refusal of its length, its MTI or its bitmaps
+--   content_carried S c n x      == the content x of class c, n digits or bytes long, in the other script
+--   item_carried S t f a n k s   == field f in the other script: its length digits take a bytes of s, its content the next k
+--   fields_judged S t at w fs s  == judging the fields fs one after the other, the first at the place `at`, where s begins, and w bytes of
+--                                output before them: the places after the last
+--   fields_carried S t fs s      == those that are judged before a refusal, in the other script
+--   body_judged S t s k          == judging all fields of an input with k bitmaps
+--   body_carried S t s k         == such an input in the other script: MTI, bitmaps as they are, fields
+--   link_judged S t m s          == judging an input with at most m bitmaps: the bytes used and to be written, or the refusal
+--   link_carried S t m s         == its message in the other script
+--   link_answer S t m s out      == the answer, where the output holds out
+--   link_output S t m s out      == each byte of the output afterwards
 --
 -- Assumes nothing: these are definitions.
 use Rattle.std.specs.Prelude.{ℕ, ◌+◌, ◌*◌, cond, List, [], ◌∷◌, ◌++◌, length, take, drop, ltb, leb}

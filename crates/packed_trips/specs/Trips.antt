@@ -2,15 +2,15 @@
 -- in the other form, and the trip there and back returns every byte used. Proved in proofs/Trips.antt for every small table (`Small` of
 -- field_table/specs/Table.antt) and at most m bitmaps, m two or more; said of the house table and three.
 --
---   says t p            == the reading of the plain form of what p says: its MTI, its count of bitmaps, and where its contents stand
---   Carries S t m s out u w p == p is what the message at the front of the input s says, u bytes long in the script S, and the w bytes of its
---                          other form stand over the front of the output out afterwards
---   form_of S t p        == the bytes of p in the script S: `plain_bytes` or `packed_bytes` (packed_language/specs/Packed.antt)
---   Links S t m         == of the way out of the script S: it accepts exactly the inputs that begin with a message in S, and carries it over
---   Packs t m           == of packing, in the terms of demand 3's language, `Message t m bs r`, `Begins t m s u r`
---   Returns t m         == of the trip, either way round
---   Leaves t m          == what it neither looks at nor touches
---   HouseLinks          == all of it, of the house table and three bitmaps
+--   says t p                   == the reading of the plain form of what p says: its MTI, its count of bitmaps, and where its contents stand
+--   Carries S t m s out u w p  == p is what the message at the front of the input s says, u bytes long in the script S, and the w bytes of its
+--                           other form stand over the front of the output out afterwards
+--   form_of S t p              == the bytes of p in the script S: `plain_bytes` or `packed_bytes` (packed_language/specs/Packed.antt)
+--   Links S t m                == of the way out of the script S: it accepts exactly the inputs that begin with a message in S, and carries it over
+--   Packs t m                  == of packing, in the terms of demand 3's language, `Message t m bs r`, `Begins t m s u r`
+--   Returns t m                == of the trip, either way round
+--   Leaves t m                 == what it neither looks at nor touches
+--   HouseLinks                 == all of it, of the house table and three bitmaps
 --
 -- Assumes nothing: these are definitions and statements.
 use Rattle.std.specs.Prelude.{ℕ, ◌≤◌, ◌<◌, ◌≡◌, List, ◌++◌, length, take, drop}

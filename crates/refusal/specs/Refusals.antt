@@ -1,15 +1,15 @@
 -- What a refusal holds, what a conversion answers and leaves in its output, and what a check answers.
 --
---   refusal n f p          == number n, field f, position p
---   tell r vs              == the refusal r, and the values vs
---   plain n                == number n, with no field and position 0
---   Told                   == what an answer tells: 01's number, field and position (all 0 where nothing is refused), and its values
---   told c                 == what a conversion's answer tells; its value is the length written
---   converted n r out      == the answer of a conversion to the bytes r: `plain n` where its source fails with the number n
---                             (0: it does not fail), 14 where r does not fit in out, else the length of r
+--   refusal n f p           == number n, field f, position p
+--   tell r vs               == the refusal r, and the values vs
+--   plain n                 == number n, with no field and position 0
+--   Told                    == what an answer tells: 01's number, field and position (all 0 where nothing is refused), and its values
+--   told c                  == what a conversion's answer tells; its value is the length written
+--   converted n r out       == the answer of a conversion to the bytes r: `plain n` where its source fails with the number n
+--                              (0: it does not fail), 14 where r does not fit in out, else the length of r
 --   converted_into n r out  == each byte of its output afterwards
 --   told_checked c          == what a check's answer tells; it has no values
---   checked n f            == the answer of a check that fails with the number n, for the field f: position 0 (n is 0: it passes)
+--   checked n f             == the answer of a check that fails with the number n, for the field f: position 0 (n is 0: it passes)
 --
 -- Assumes nothing: these are definitions.
 use Rattle.std.specs.Prelude.{ℕ, cond, List, [], ◌∷◌, length, leb, eqb}

@@ -7,17 +7,17 @@
 -- `Begins d.table d.most s u r`: the input s begins with a message of the language that is u bytes long, has the reading r and at most
 -- as many bitmaps as the dialect takes. `notes_of d.form r u` are then its notes.
 --
---   is_byte x                  == x is a number that a byte holds, as every element of a slice is
+--   is_byte x                 == x is a number that a byte holds, as every element of a slice is
 --   GivesBack d               == reading, and then exact writing, gives back what was read
---   contents_named d v n       == the fields that the notes n name, with their contents in the values v, in their order, up to the end note
---                                or a note with fault 9, 10 or 11
+--   contents_named d v n      == the fields that the notes n name, with their contents in the values v, in their order, up to the end note
+--                               or a note with fault 9, 10 or 11
 --   ReadsAs d s b u mti m cs  == reading the input s, with the notes buffer b, gives the reading of the message of the fields cs, u bytes
 --                                used, and the contents cs again
 --   WritesMessages d          == what the exact writer writes is a message, and reading it back gives the contents that the notes name
 --   Short t f cs              == field f is one of cs, it is fixed, and its content is shorter than the table's length
 --   AgreesWithExact d         == the cleaning writer does as the exact one where nothing is short
 --   PadsShortAlone d          == what it does else: it pads the short fixed fields, names exactly those, and changes and drops nothing
---   end_place F r              == where the end note of the reading r stands
+--   end_place F r             == where the end note of the reading r stands
 --   LooksUp d                 == lookup in the notes of a message finds exactly the fields of its reading
 --   IgnoresBehind d           == bytes behind the notes of a message change nothing of what lookup and both writers do
 --

@@ -3,7 +3,6 @@
 
 use std::fs::File;
 use std::os::fd::AsRawFd;
-use std::rt::Files;
 use std::{env, io};
 
 fn main(rt: HostRuntime) -> io::Result<()> {

@@ -5,17 +5,17 @@
 --   space                == the byte between words
 --   named w n e          == the word w, a space, the number n in decimal and the byte e
 --   tripled a x b y c z  == a line of three words, each with its number
---   mti_line mti          == the line of an MTI
---   field_line e          == the line of a field: its number, and where its content is and how long, as in its note
---   field_lines es        == a line for each entry, in order
---   reading_lines r u     == the lines of the reading r of a message u bytes long
---   refused_line r        == the line of a refusal
---   answer_lines t s a    == the lines for the reader's answer a to the input s, by the table t
---   input_most            == how long an input may be
---   report_of d s         == the lines for the input s, read by the dialect d
---   text_room             == what any report fits in
---   report_size d s b     == how many bytes are written to a text that holds b: none where it lacks that room
---   report_text d s b     == each byte of that text afterwards
+--   mti_line mti         == the line of an MTI
+--   field_line e         == the line of a field: its number, and where its content is and how long, as in its note
+--   field_lines es       == a line for each entry, in order
+--   reading_lines r u    == the lines of the reading r of a message u bytes long
+--   refused_line r       == the line of a refusal
+--   answer_lines t s a   == the lines for the reader's answer a to the input s, by the table t
+--   input_most           == how long an input may be
+--   report_of d s        == the lines for the input s, read by the dialect d
+--   text_room            == what any report fits in
+--   report_size d s b    == how many bytes are written to a text that holds b: none where it lacks that room
+--   report_text d s b    == each byte of that text afterwards
 --
 -- Assumes nothing: these are definitions.
 use Rattle.std.specs.Prelude.{ℕ, cond, List, [], ◌∷◌, ◌++◌, ltb, length}

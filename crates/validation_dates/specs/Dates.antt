@@ -1,10 +1,10 @@
 -- The checks of a date and of a time of day. 01: "MMDD: four digits, month 1-12, day 1-31. hhmmss: six digits, 0-23, 0-59, 0-59."
 --
---   pair i s          == the number that the two digits of s from i on spell
---   is_date s          == s is a date, as MMDD
---   is_time s          == s is a time of day, as hhmmss
---   date_fault s       == 20 where s is no date, else 0
---   time_fault s       == 20 where s is no time of day, else 0
+--   pair i s      == the number that the two digits of s from i on spell
+--   is_date s     == s is a date, as MMDD
+--   is_time s     == s is a time of day, as hhmmss
+--   date_fault s  == 20 where s is no date, else 0
+--   time_fault s  == 20 where s is no time of day, else 0
 --
 -- Assumes nothing: these are definitions.
 use Rattle.std.specs.Prelude.{ℕ, Bool, cond, List, take, drop}

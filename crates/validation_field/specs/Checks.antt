@@ -1,16 +1,16 @@
 -- The field check. 01: "number (10), class (16), then length as for the exact writer (12), then for field 2 the PAN, for 4 and 5 the zero
 -- rule."
 --
---   Asked                == something asked of a content: whether it holds, and 01's number for where it does not
---   asks b n             == b must hold, or the check fails with the number n
---   first_failing l       == the number of the first of the list l that does not hold; 0 where all do
---   is_pan_field f         == the content of field f is a PAN
---   is_amount_field f      == it is an amount that must not be all zeros
---   is_zeros s            == every byte of s is the digit `0`
---   value_tests f s       == what is asked of the value of s in field f
---   field_tests t f s     == what is asked of the content s of field f by the table t, in 01's order
---   field_fault t f s     == why it fails; 0 where it does not
---   is_currency s         == s is a currency code: three digits
+--   Asked              == something asked of a content: whether it holds, and 01's number for where it does not
+--   asks b n           == b must hold, or the check fails with the number n
+--   first_failing l    == the number of the first of the list l that does not hold; 0 where all do
+--   is_pan_field f     == the content of field f is a PAN
+--   is_amount_field f  == it is an amount that must not be all zeros
+--   is_zeros s         == every byte of s is the digit `0`
+--   value_tests f s    == what is asked of the value of s in field f
+--   field_tests t f s  == what is asked of the content s of field f by the table t, in 01's order
+--   field_fault t f s  == why it fails; 0 where it does not
+--   is_currency s      == s is a currency code: three digits
 --
 -- Assumes nothing: these are definitions.
 use Rattle.std.specs.Prelude.{ℕ, Bool, not, cond, List, [], ◌∷◌, length, eqb}

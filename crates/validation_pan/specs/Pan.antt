@@ -2,15 +2,15 @@
 -- second digit, less 9 when over 9; the sum is a multiple of 10" (Luhn's formula). 02, P1: "The PAN check shall take 12 to 19 digits, the
 -- sum rule unchanged."
 --
---   digits_in s       == the digits that remain of s when every byte that is none is dropped, as the numbers 0 to 9
---   doubled d        == twice d, less 9 when that is over 9
---   worth on d       == what the digit d adds to the sum: doubled where `on` says so
---   weighed on ds    == the sum over the digits ds, every second one doubled: from the second on, or from the first where `on` says so
---   luhn_sum ds       == the sum over the digits ds from the right; the last one is not doubled
---   least_digits      == how many digits a PAN has at least
---   most_digits       == how many it has at most
---   is_pan s          == the content s passes the PAN check
---   pan_fault s       == 17 where it does not, else 0
+--   digits_in s    == the digits that remain of s when every byte that is none is dropped, as the numbers 0 to 9
+--   doubled d      == twice d, less 9 when that is over 9
+--   worth on d     == what the digit d adds to the sum: doubled where `on` says so
+--   weighed on ds  == the sum over the digits ds, every second one doubled: from the second on, or from the first where `on` says so
+--   luhn_sum ds    == the sum over the digits ds from the right; the last one is not doubled
+--   least_digits   == how many digits a PAN has at least
+--   most_digits    == how many it has at most
+--   is_pan s       == the content s passes the PAN check
+--   pan_fault s    == 17 where it does not, else 0
 --
 -- Assumes nothing: these are definitions.
 use Rattle.std.specs.Prelude.{ℕ, ◌+◌, ◌-◌, ◌*◌, ◌%◌, Bool, false, not, cond, List, [], ◌∷◌, reverse, length, eqb, leb}

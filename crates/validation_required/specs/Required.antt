@@ -1,19 +1,19 @@
 -- The required fields. 01: "Required, in this order: 3, 11, 12, 13; then 2 and 4 when the MTI's second digit is 1 or 2 and its third 0;
 -- then 39 when its third is 1. Malformed notes are answered as by lookup."
 --
---   second_digit m         == the second byte of the MTI m
---   third_digit m          == the third
+--   second_digit m          == the second byte of the MTI m
+--   third_digit m           == the third
 --   is_card_request m       == m is a request of an authorisation or of a financial transaction: these need card and amount
---   is_response m          == m is a response
---   required_by m          == the fields required of a message with the MTI m, in 01's order
---   required_more m        == those behind the four that every message needs
+--   is_response m           == m is a response
+--   required_by m           == the fields required of a message with the MTI m, in 01's order
+--   required_more m         == those behind the four that every message needs
 --   required_of_response m  == the last of them
---   is_found r             == lookup's answer r found the field
---   is_present d v n f     == lookup finds field f, by the dialect d
---   first_missing p fs     == the first of the fields fs that does not pass p; 0 where all do
---   missing_answer f       == the answer where field f is missing; where f is 0, none is
---   required_after w f     == the answer after a walk that ended as w says, where field f is missing (0: none)
---   required_in d v n      == the answer of the check of the notes n and the values v, by the dialect d
+--   is_found r              == lookup's answer r found the field
+--   is_present d v n f      == lookup finds field f, by the dialect d
+--   first_missing p fs      == the first of the fields fs that does not pass p; 0 where all do
+--   missing_answer f        == the answer where field f is missing; where f is 0, none is
+--   required_after w f      == the answer after a walk that ended as w says, where field f is missing (0: none)
+--   required_in d v n       == the answer of the check of the notes n and the values v, by the dialect d
 --
 -- Assumes nothing: these are definitions.
 use Rattle.std.specs.Prelude.{ℕ, Bool, true, false, cond, List, [], ◌∷◌, ◌++◌, get_or, eqb}

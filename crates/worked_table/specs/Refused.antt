@@ -1,7 +1,7 @@
 -- 01's worked messages that are refused begin no message of the language, whatever its length and its reading.
 --
 --   RefusedMessages  == cases 4 to 6 and 9, where 01 says that they are refused
---   RefusedText      == `text-ends` of `OtherMessages` with the byte behind the last that text may hold
+--   RefusedText      == `text_ends` of `OtherMessages` with the byte behind the last that text may hold
 --
 -- The accepted ones are in message_language/specs/Worked.antt. proofs/Refused.antt proves this. Assumes nothing: this is a statement.
 use Rattle.std.specs.Prelude.{ℕ, [], ◌∷◌, ◌++◌, replicate}

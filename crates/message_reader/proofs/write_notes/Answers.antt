@@ -14,7 +14,7 @@ use Rattle.message_notes.specs.Dialect.{plain_form, note_size, head_size, dialec
 use Rattle.message_notes.specs.Notes.{head_note, end_note, field_notes, notes_of}
 use Rattle.message_notes.proofs.Sizes.{head_long, end_long}
 use Rattle.message_reader.specs.Reader.{entries_of, reading_with}
-use Rattle.message_reader.proofs.Noting.{notes_few, body_is, entries_are, listed_few}
+use Rattle.message_reader.proofs.Noting.{body_is, entries_are, listed_few, written_few}
 use native.Mathlib.Omega.{arith}
 use Rattle.message_reader.proofs.write_notes.Goals as goal
 
@@ -36,51 +36,22 @@ write_fields-written-requires c = let t = decoded c.args.table.now in
     }
 
 pub overflow_add-end : goal.overflow_add-end
-overflow_add-end c =
-    let few :
-    c.write_fields-written.result ≤ note_size plain_form * (64 * (dialect (decoded c.args.table.now)).most - 2) =
-    let t = decoded c.args.table.now in
-    omega (arith, c.write_fields-written.ensures.size, ap (λ (es : List Entry). length (field_notes plain_form es)) (entries_are t _ _ _ c.requires.listed), notes_few (dialect t) c.args.message.now c.args.bitmaps (omega arith) c.requires.few) in
-    omega (
-      arith,
-      few,
-    )
+overflow_add-end c = omega (arith, written_few (decoded c.args.table.now) c.args.message.now c.args.fields.now c.args.bitmaps c.requires.listed _ c.requires.few c.write_fields-written.ensures.size)
 
 pub slice_bounds-put_end-count : goal.slice_bounds-put_end-count
 slice_bounds-put_end-count c =
-    let few :
-    c.write_fields-written.result ≤ note_size plain_form * (64 * (dialect (decoded c.args.table.now)).most - 2) =
-    let t = decoded c.args.table.now in
-    omega (arith, c.write_fields-written.ensures.size, ap (λ (es : List Entry). length (field_notes plain_form es)) (entries_are t _ _ _ c.requires.listed), notes_few (dialect t) c.args.message.now c.args.bitmaps (omega arith) c.requires.few) in
-    omega (
-      arith,
-      few,
-      c.notes-2-1.given,
-      c.notes-1.given,
-      c.requires.room,
-    )
+    let few = written_few (decoded c.args.table.now) c.args.message.now c.args.fields.now c.args.bitmaps c.requires.listed _ c.requires.few c.write_fields-written.ensures.size in
+    omega (arith, few, c.notes-2-1.given, c.notes-1.given, c.requires.room)
 
 pub slice_bounds-put_end-start : goal.slice_bounds-put_end-start
 slice_bounds-put_end-start c =
-    let few :
-    c.write_fields-written.result ≤ note_size plain_form * (64 * (dialect (decoded c.args.table.now)).most - 2) =
-    let t = decoded c.args.table.now in
-    omega (arith, c.write_fields-written.ensures.size, ap (λ (es : List Entry). length (field_notes plain_form es)) (entries_are t _ _ _ c.requires.listed), notes_few (dialect t) c.args.message.now c.args.bitmaps (omega arith) c.requires.few) in
-    omega (
-      arith,
-      few,
-      c.notes-2-1.given,
-      c.notes-1.given,
-      c.requires.room,
-    )
+    let few = written_few (decoded c.args.table.now) c.args.message.now c.args.fields.now c.args.bitmaps c.requires.listed _ c.requires.few c.write_fields-written.ensures.size in
+    omega (arith, few, c.notes-2-1.given, c.notes-1.given, c.requires.room)
 
 pub returns : goal.returns
 unfolding notes_of reading_with
 returns c =
-    let few :
-    c.write_fields-written.result ≤ note_size plain_form * (64 * (dialect (decoded c.args.table.now)).most - 2) =
-    let t = decoded c.args.table.now in
-    omega (arith, c.write_fields-written.ensures.size, ap (λ (es : List Entry). length (field_notes plain_form es)) (entries_are t _ _ _ c.requires.listed), notes_few (dialect t) c.args.message.now c.args.bitmaps (omega arith) c.requires.few) in
+    let few = written_few (decoded c.args.table.now) c.args.message.now c.args.fields.now c.args.bitmaps c.requires.listed _ c.requires.few c.write_fields-written.ensures.size in
     let t = decoded c.args.table.now in
     let h = head_note (take 4 c.args.message.now) c.args.bitmaps in
     let n = field_notes plain_form (entries_of t (4 + 8 * c.args.bitmaps) c.args.fields.now (drop (4 + 8 * c.args.bitmaps) c.args.message.now)) in
@@ -88,11 +59,6 @@ returns c =
     let l : length h ≡ head_size = head_long (take 4 c.args.message.now) c.args.bitmaps ∙ omega (arith, length-take-le 4 c.args.message.now (omega (arith, c.requires.whole))) in
     let e1 = c.put_head.ensures ∙ placed_fits h c.args.notes.now head_size l (omega (arith, c.requires.room)) in
     let e2 = lay_part h n c.args.notes.now _ _ head_size e1 l c.write_fields-written.ensures.writes in
-    placed_part (h ++ n) u c.args.notes.now _ _ _ e2 (omega (arith, length-append h n)) (omega (
-      arith,
-      end_long c.args.used,
-      few,
-      c.requires.room,
-    )) c.put_end.ensures
+    placed_part (h ++ n) u c.args.notes.now _ _ _ e2 (omega (arith, length-append h n)) (omega (arith, end_long c.args.used, few, c.requires.room)) c.put_end.ensures
     ∙ ap (λ (x : List ℕ). lay x c.args.notes.now) (append_assoc h n u)
     ∙ ap (λ (es : List Entry). lay (h ++ (field_notes plain_form es ++ u)) c.args.notes.now) (entries_are t c.args.message.now c.args.fields.now c.args.bitmaps c.requires.listed)

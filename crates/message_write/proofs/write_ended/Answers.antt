@@ -13,18 +13,10 @@ use Rattle.message_write.proofs.Ends.{asked_head, asked_size, ended_differs, dif
 use Rattle.message_write.proofs.write_ended.Goals as goal
 
 pub overflow_mul-length : goal.overflow_mul-length
-overflow_mul-length c =
-    let few :
-    c.count_in-count.result ≤ 3 =
-    omega (arith, c.count_in-count.ensures, (asked_head _ _ _ _ (asked_of c.requires.head c.requires.clean c.requires.named)).three) in
-    omega (arith, few)
+overflow_mul-length c = omega (arith, c.count_in-count.ensures, (asked_head _ _ _ _ (asked_of c.requires.head c.requires.clean c.requires.named)).three)
 
 pub overflow_add-length : goal.overflow_add-length
-overflow_add-length c =
-    let few :
-    c.count_in-count.result ≤ 3 =
-    omega (arith, c.count_in-count.ensures, (asked_head _ _ _ _ (asked_of c.requires.head c.requires.clean c.requires.named)).three) in
-    omega (arith, few)
+overflow_add-length c = omega (arith, c.count_in-count.ensures, (asked_head _ _ _ _ (asked_of c.requires.head c.requires.clean c.requires.named)).three)
 
 pub overflow_add-length-2 : goal.overflow_add-length-2
 overflow_add-length-2 c =

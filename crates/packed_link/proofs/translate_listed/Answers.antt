@@ -9,7 +9,7 @@ use Rattle.bitmap_read.specs.Found.{maps_of}
 use Rattle.packed_field.specs.declared.Script.{Script}
 use Rattle.packed_field.specs.Scripts.{size_of}
 use Rattle.packed_link.proofs.Heads.{mti_small, head_few, head_room}
-use Rattle.packed_link.proofs.Answers.{ends_refused, ends_short, ends_done, body_is}
+use Rattle.packed_link.proofs.Answers.{ends_refused, ends_short, ends_done, body_said}
 use Rattle.packed_link.proofs.translate_listed.Goals as goal
 
 pub overflow_mul-maps : goal.overflow_mul-maps
@@ -31,31 +31,35 @@ judge_fields-requires c = let f = head_few _ _ _ _ (omega arith) c.requires.head
     }
 
 pub returns-then-out-written : goal.returns-then-out-written
-returns-then-out-written c = let e = ends_short _ _ _ _ _ _ c.requires.headed _ _ ((sym (c.judge_fields.ensures ∙ body_is _ (decoded c.args.table.now) _ _ _ c.requires.listed _ _ (ap (λ (y : ℕ). y + 8 * c.args.bitmaps) c.size_of.ensures)
-    (ap (λ (y : ℕ). y + 8 * c.args.bitmaps) (c.size_of-2.ensures ∙ ap (λ (x : Script). size_of x 4) c.other_script.ensures)))) ∙ c.in-Good.is) c.if-out-written.true in
+returns-then-out-written c =
+    let body = body_said _ (decoded c.args.table.now) _ _ _ c.requires.listed _ _ _ _ c.size_of.ensures c.other_script.ensures c.size_of-2.ensures c.judge_fields.ensures in
+    let e = ends_short _ _ _ _ _ _ c.requires.headed _ _ (body ∙ c.in-Good.is) c.if-out-written.true in
     record { answers = e.answer; writes = e.output }
 
 pub write_message-requires : goal.write_message-requires
-write_message-requires c = record {
-  headed = c.requires.headed;
-  listed = c.requires.listed;
-  judged = (
-    _,
-    _,
-    (
-      (sym (c.judge_fields.ensures ∙ body_is _ (decoded c.args.table.now) _ _ _ c.requires.listed _ _ (ap (λ (y : ℕ). y + 8 * c.args.bitmaps) c.size_of.ensures)
-          (ap (λ (y : ℕ). y + 8 * c.args.bitmaps) (c.size_of-2.ensures ∙ ap (λ (x : Script). size_of x 4) c.other_script.ensures)))) ∙ c.in-Good.is,
-      c.if-out-written.false,
-    ),
-  );
-}
+write_message-requires c =
+    let body = body_said _ (decoded c.args.table.now) _ _ _ c.requires.listed _ _ _ _ c.size_of.ensures c.other_script.ensures c.size_of-2.ensures c.judge_fields.ensures in
+    record {
+      headed = c.requires.headed;
+      listed = c.requires.listed;
+      judged = (
+        _,
+        _,
+        (
+          body ∙ c.in-Good.is,
+          c.if-out-written.false,
+        ),
+      );
+    }
 
 pub returns-in-Refused : goal.returns-in-Refused
-returns-in-Refused c = let e = ends_refused _ _ _ _ _ _ c.requires.headed _ ((sym (c.judge_fields.ensures ∙ body_is _ (decoded c.args.table.now) _ _ _ c.requires.listed _ _ (ap (λ (y : ℕ). y + 8 * c.args.bitmaps) c.size_of.ensures)
-    (ap (λ (y : ℕ). y + 8 * c.args.bitmaps) (c.size_of-2.ensures ∙ ap (λ (x : Script). size_of x 4) c.other_script.ensures)))) ∙ c.in-Refused.is) in
+returns-in-Refused c =
+    let body = body_said _ (decoded c.args.table.now) _ _ _ c.requires.listed _ _ _ _ c.size_of.ensures c.other_script.ensures c.size_of-2.ensures c.judge_fields.ensures in
+    let e = ends_refused _ _ _ _ _ _ c.requires.headed _ (body ∙ c.in-Refused.is) in
     record { answers = e.answer; writes = e.output }
 
 pub returns-else-out-written : goal.returns-else-out-written
-returns-else-out-written c = let e = ends_done _ _ _ _ _ _ c.requires.headed _ _ ((sym (c.judge_fields.ensures ∙ body_is _ (decoded c.args.table.now) _ _ _ c.requires.listed _ _ (ap (λ (y : ℕ). y + 8 * c.args.bitmaps) c.size_of.ensures)
-    (ap (λ (y : ℕ). y + 8 * c.args.bitmaps) (c.size_of-2.ensures ∙ ap (λ (x : Script). size_of x 4) c.other_script.ensures)))) ∙ c.in-Good.is) c.if-out-written.false _ c.write_message.ensures in
+returns-else-out-written c =
+    let body = body_said _ (decoded c.args.table.now) _ _ _ c.requires.listed _ _ _ _ c.size_of.ensures c.other_script.ensures c.size_of-2.ensures c.judge_fields.ensures in
+    let e = ends_done _ _ _ _ _ _ c.requires.headed _ _ (body ∙ c.in-Good.is) c.if-out-written.false _ c.write_message.ensures in
     record { answers = e.answer; writes = e.output }
