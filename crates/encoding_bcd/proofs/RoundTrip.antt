@@ -12,6 +12,7 @@ use Rattle.octets.specs.Lists.{both, between, all}
 use Rattle.octets.specs.Numbers.{is_digit}
 use Rattle.octets.proofs.Cases.{both_left, both_right}
 use Rattle.octets.proofs.Lists.{is_between, between_low, between_high}
+use Rattle.refusal.specs.Refusals.{good}
 use Rattle.encoding_bcd.specs.Bcd.{bytes_of, paired, packed, spread, unpacked, is_bcd, spare_zero, decode_fault}
 use Rattle.encoding_bcd.proofs.Packing.{parity, packed_odd, packed_even, packed_length}
 use Rattle.encoding_bcd.proofs.Unpacking.{spread_length, none_over, high_most, low_most}
@@ -89,7 +90,7 @@ unpacked_packed s t =
     (parity (length s))
 
 -- The BCD of n digits is never refused as a source of n digits.
-pub packed_decodes : (s : List ℕ) → all is_digit s ≡ true → decode_fault (length s) (packed s) ≡ 0
+pub packed_decodes : (s : List ℕ) → all is_digit s ≡ true → decode_fault (length s) (packed s) ≡ good
 unfolding decode_fault
 packed_decodes s t = rw (eq-eqb (length (packed s)) (bytes_of (length s)) (packed_length s), packed_bcd s t, packed_spare s t)
 
@@ -110,7 +111,7 @@ all_rest (x ∷ s) (suc zero) h t = both_right (is_digit x) (all is_digit s) t
 all_rest (x ∷ s) (suc (suc k)) h t = absurd (omega arith)
 
 -- What comes out of a source that is not refused are digits.
-pub unpacked_digits : (n : ℕ) (s : List ℕ) → decode_fault n s ≡ 0 → all is_digit (unpacked n s) ≡ true
+pub unpacked_digits : (n : ℕ) (s : List ℕ) → decode_fault n s ≡ good → all is_digit (unpacked n s) ≡ true
 unfolding unpacked
 unpacked_digits n s z =
     all_rest (spread s) (n % 2) (omega arith) (spread_digits s (both_left (all is_bcd s) (spare_zero n s) (decode_good n s z)))
@@ -128,10 +129,10 @@ spread_spare [] h t = absurd (omega arith)
 spread_spare (b ∷ s) h t = rw (eqb-true (b / 16) 0 t)
 
 -- Bytes that are not refused as a source of n digits are the BCD of the digits that come out: no two such sources give the same digits.
-pub packed_unpacked : (n : ℕ) (s : List ℕ) → decode_fault n s ≡ 0 → packed (unpacked n s) ≡ s
+pub packed_unpacked : (n : ℕ) (s : List ℕ) → decode_fault n s ≡ good → packed (unpacked n s) ≡ s
 unfolding unpacked
 packed_unpacked n s z =
-    let sized : length s ≡ bytes_of n = decode_clean 0 n s (sym z) refl in
+    let sized : length s ≡ bytes_of n = decode_clean good n s (sym z) refl in
     let long = spread_length s in
     ⊎_elim
     (λ (o : n % 2 ≡ 1).

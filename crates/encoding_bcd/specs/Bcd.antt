@@ -16,6 +16,7 @@ use Rattle.std.specs.Prelude.{ℕ, ◌+◌, ◌-◌, ◌*◌, ◌/◌, ◌%◌, 
 use Rattle.octets.specs.Lists.{both, either, all}
 use Rattle.octets.specs.Numbers.{is_digit}
 use Rattle.refusal.specs.Numbers.{not_digits, not_bcd, byte_count_wrong}
+use Rattle.refusal.specs.Refusals.{Test, good, bad}
 
 -- 01: "exactly half of n, rounded up, bytes"
 abbrev pub bytes_of : ℕ → ℕ
@@ -49,9 +50,9 @@ unfoldable pub spare_zero : ℕ → List ℕ → Bool
 spare_zero n s = either (eqb (n % 2) 0) (eqb (get_or s 0 0 / 16) 0)
 
 -- 01: "BCD source not digits"
-unfoldable pub encode_fault : List ℕ → ℕ
-encode_fault s = cond (all is_digit s) 0 not_digits
+unfoldable pub encode_fault : List ℕ → Test
+encode_fault s = cond (all is_digit s) good (bad not_digits)
 
 -- 01: "BCD decoding 23, then 22"
-unfoldable pub decode_fault : ℕ → List ℕ → ℕ
-decode_fault n s = cond (eqb (length s) (bytes_of n)) (cond (both (all is_bcd s) (spare_zero n s)) 0 not_bcd) byte_count_wrong
+unfoldable pub decode_fault : ℕ → List ℕ → Test
+decode_fault n s = cond (eqb (length s) (bytes_of n)) (cond (both (all is_bcd s) (spare_zero n s)) good (bad not_bcd)) (bad byte_count_wrong)

@@ -8,58 +8,32 @@ ghost use Rattle.refusal.specs.Refusals.{told, converted, converted_into};
 ghost use Rattle.encoding_bcd.specs.Bcd.{bytes_of, evened, packed, spread, unpacked, is_bcd, spare_zero, encode_fault, decode_fault};
 
 use octets::all_between;
-use refusal::{BYTE_COUNT_WRONG, NOT_BCD, NOT_DIGITS, OUTPUT_TOO_SHORT, Output, Refusal};
+use refusal::{Cause, Refusal, check_room};
 
 // Writes the ASCII digits of src in BCD: 21 where a byte of src is no digit, then 14.
-pub fn encode(src: &[u8], out: &mut [u8]) -> Output
+pub fn encode(src: &[u8], out: &mut [u8]) -> Result<usize, Refusal>
     ensures answers { result ≡ converted (encode_fault src.now) (packed src.now) out.old }
     ensures tells { told result ≡ told (converted (encode_fault src.now) (packed src.now) out.old) }
     ensures writes { out.new ≡ converted_into (encode_fault src.now) (packed src.now) out.old }
 {
-    let fault = encode_fault(src);
-    if fault != 0 {
-        return Output::Refused(Refusal {
-            number: fault,
-            field: 0,
-            position: 0,
-        });
-    }
+    encode_fault(src)?;
     let n = bytes_of(src.len());
-    if out.len() < n {
-        return Output::Refused(Refusal {
-            number: OUTPUT_TOO_SHORT,
-            field: 0,
-            position: 0,
-        });
-    }
+    check_room(n, out)?;
     put_packed(src, out);
-    Output::Written(n)
+    Ok(n)
 }
 
 // Writes the given count of ASCII digits from the BCD of src: 23 where src is not half of them bytes long, rounded up;
 // 22 where a half-byte is over 9 or the spare leading digit of an odd count is not 0; then 14.
-pub fn decode(src: &[u8], digits: usize, out: &mut [u8]) -> Output
+pub fn decode(src: &[u8], digits: usize, out: &mut [u8]) -> Result<usize, Refusal>
     ensures answers { result ≡ converted (decode_fault digits src.now) (unpacked digits src.now) out.old }
     ensures tells { told result ≡ told (converted (decode_fault digits src.now) (unpacked digits src.now) out.old) }
     ensures writes { out.new ≡ converted_into (decode_fault digits src.now) (unpacked digits src.now) out.old }
 {
-    let fault = decode_fault(src, digits);
-    if fault != 0 {
-        return Output::Refused(Refusal {
-            number: fault,
-            field: 0,
-            position: 0,
-        });
-    }
-    if out.len() < digits {
-        return Output::Refused(Refusal {
-            number: OUTPUT_TOO_SHORT,
-            field: 0,
-            position: 0,
-        });
-    }
+    decode_fault(src, digits)?;
+    check_room(digits, out)?;
     put_unpacked(src, digits, out);
-    Output::Written(digits)
+    Ok(digits)
 }
 
 // How many bytes n digits take. No sum here is over n, however large it is.
@@ -69,13 +43,13 @@ pub fn bytes_of(n: usize) -> usize
     n / 2 + n % 2
 }
 
-fn encode_fault(src: &[u8]) -> u8
+fn encode_fault(src: &[u8]) -> Result<(), Cause>
     ensures { result ≡ encode_fault src.now }
 {
-    if all_between(src, b'0', b'9') {
-        return 0;
+    if !all_between(src, b'0', b'9') {
+        return Err(Cause::NotDigits);
     }
-    NOT_DIGITS
+    Ok(())
 }
 
 fn put_packed(src: &[u8], out: &mut [u8])
@@ -108,19 +82,16 @@ fn value_at(src: &[u8], j: usize) -> u8
 }
 
 // What is wrong with src as the BCD of so many digits: 23, then 22; 0 where nothing is.
-pub fn decode_fault(src: &[u8], digits: usize) -> u8
+pub fn decode_fault(src: &[u8], digits: usize) -> Result<(), Cause>
     ensures { result ≡ decode_fault digits src.now }
 {
     if src.len() != bytes_of(digits) {
-        return BYTE_COUNT_WRONG;
+        return Err(Cause::ByteCountWrong);
     }
-    if !all_bcd(src) {
-        return NOT_BCD;
+    if !all_bcd(src) || !spare_zero(src, digits) {
+        return Err(Cause::NotBcd);
     }
-    if !spare_zero(src, digits) {
-        return NOT_BCD;
-    }
-    0
+    Ok(())
 }
 
 // Whether no half-byte of src is over 9.

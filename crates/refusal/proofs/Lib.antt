@@ -1,2 +1,3 @@
+pub mod Tests
 pub mod Conversions
 pub mod Checks

@@ -1,94 +1,139 @@
 // What a routine answers when it refuses: 01's numbers, by name. Nothing here knows how any routine works.
 #![tactic(auto)]
 
-ghost use Rattle.std.specs.Prelude.{◌≡◌};
-ghost use Rattle.refusal.specs.Refusals.{checked};
+ghost use Rattle.std.specs.Prelude.{◌≡◌, length};
+ghost use Rattle.refusal.specs.Numbers.{number_of};
+ghost use Rattle.refusal.specs.Refusals.{plain, refusal, room, checked};
+
+use std::fmt;
+
+// Why a routine refuses: 01's numbers, by name. While three bitmaps are taken no routine gives the last.
+#[derive(Clone, Copy, PartialEq, Eq, Debug)]
+pub enum Cause {
+    // The reader's notes buffer is under 1,531 bytes.
+    NotesTooShort = 1,
+    // The message is under 12 bytes.
+    MessageTooShort = 2,
+    // The MTI has a non-digit.
+    MtiNotDigits = 3,
+    // The second or third bitmap is incomplete.
+    BitmapIncomplete = 4,
+    // Length digits or content run past the end.
+    PastTheEnd = 5,
+    // A length byte is not 0-9.
+    LengthNotDigits = 6,
+    // The length is over the table's.
+    LengthOverTable = 7,
+    // A text byte is over 0x7F.
+    TextNotAscii = 8,
+    // A note is missing, cut or of the wrong kind, or its count is not 1-3.
+    NoteMalformed = 9,
+    // A number is not above the last; or is 0, 1, 65; or is over 192 in a field check, else over 64 times the count.
+    NumberNotAllowed = 10,
+    // Offset plus length is over the values' size.
+    OutsideValues = 11,
+    // A length is not allowed (in cleaning: too long only).
+    LengthNotAllowed = 12,
+    // The end note differs from the length to be written.
+    EndDiffers = 13,
+    // The output is too short.
+    OutputTooShort = 14,
+    // The field is absent.
+    FieldAbsent = 15,
+    // The class is broken.
+    ClassBroken = 16,
+    // The PAN check fails.
+    PanFails = 17,
+    // The amount is all zeros.
+    AmountZero = 18,
+    // A required field is missing.
+    RequiredMissing = 19,
+    // A date or time is wrong.
+    DateOrTimeWrong = 20,
+    // A BCD source is not digits.
+    NotDigits = 21,
+    // A BCD half-byte is over 9, or the spare leading digit is not 0.
+    NotBcd = 22,
+    // The byte count is wrong for the digits asked.
+    ByteCountWrong = 23,
+    // A byte has no ASCII meaning.
+    NoAsciiMeaning = 24,
+    // A length needs more digits than given, or these are not 2 or 3.
+    LengthNeedsDigits = 25,
+    // The till program's input is over 60,000 bytes.
+    InputTooLong = 26,
+    // There is a bitmap more than is taken.
+    BitmapOverMost = 27,
+}
 
 // 01: "An answer holds number, field (0 if none) and position."
-#[derive(Clone, Copy)]
+#[derive(Clone, Copy, PartialEq, Eq, Debug)]
 pub struct Refusal {
-    pub number: u8,
+    pub cause: Cause,
     pub field: usize,
     pub position: usize,
 }
 
-// What a routine that writes answers: how many bytes it wrote, or why it wrote none.
-#[derive(Clone, Copy)]
-pub enum Output {
-    Written(usize),
-    Refused(Refusal),
-}
-
-// What a check answers: nothing is wrong, or why it fails.
-#[derive(Clone, Copy)]
-pub enum Checked {
-    Passed,
-    Refused(Refusal),
-}
-
-// The answer of a check that fails with that number for that field; 0 where it passes.
-pub fn answer_check(number: u8, field: usize) -> Checked
-    ensures { result ≡ checked number field }
-{
-    if number == 0 {
-        return Checked::Passed;
+impl Cause {
+    // 01's number.
+    pub fn number(self) -> u8
+        ensures { result ≡ number_of self }
+    {
+        self as u8
     }
-    Checked::Refused(Refusal {
-        number,
-        field,
-        position: 0,
-    })
+
+    // The refusal of a field at a place.
+    pub fn at(self, field: usize, position: usize) -> Refusal
+        ensures { result ≡ refusal self field position }
+    {
+        Refusal {
+            cause: self,
+            field,
+            position,
+        }
+    }
 }
 
-// The reader's notes buffer is under 1,531 bytes.
-pub const NOTES_TOO_SHORT: u8 = 1;
-// The message is under 12 bytes.
-pub const MESSAGE_TOO_SHORT: u8 = 2;
-// The MTI has a non-digit.
-pub const MTI_NOT_DIGITS: u8 = 3;
-// The second or third bitmap is incomplete.
-pub const BITMAP_INCOMPLETE: u8 = 4;
-// Length digits or content run past the end.
-pub const PAST_THE_END: u8 = 5;
-// A length byte is not 0-9.
-pub const LENGTH_NOT_DIGITS: u8 = 6;
-// The length is over the table's.
-pub const LENGTH_OVER_TABLE: u8 = 7;
-// A text byte is over 0x7F.
-pub const TEXT_NOT_ASCII: u8 = 8;
-// A note is missing, cut or of the wrong kind, or its count is not 1-3.
-pub const NOTE_MALFORMED: u8 = 9;
-// A number is not above the last; or is 0, 1, 65; or is over 192 in a field check, else over 64 times the count.
-pub const NUMBER_NOT_ALLOWED: u8 = 10;
-// Offset plus length is over the values' size.
-pub const OUTSIDE_VALUES: u8 = 11;
-// A length is not allowed (in cleaning: too long only).
-pub const LENGTH_NOT_ALLOWED: u8 = 12;
-// The end note differs from the length to be written.
-pub const END_DIFFERS: u8 = 13;
-// The output is too short.
-pub const OUTPUT_TOO_SHORT: u8 = 14;
-// The field is absent.
-pub const FIELD_ABSENT: u8 = 15;
-// The class is broken.
-pub const CLASS_BROKEN: u8 = 16;
-// The PAN check fails.
-pub const PAN_FAILS: u8 = 17;
-// The amount is all zeros.
-pub const AMOUNT_ZERO: u8 = 18;
-// A required field is missing.
-pub const REQUIRED_MISSING: u8 = 19;
-// A date or time is wrong.
-pub const DATE_OR_TIME_WRONG: u8 = 20;
-// A BCD source is not digits.
-pub const NOT_DIGITS: u8 = 21;
-// A BCD half-byte is over 9, or the spare leading digit is not 0.
-pub const NOT_BCD: u8 = 22;
-// The byte count is wrong for the digits asked.
-pub const BYTE_COUNT_WRONG: u8 = 23;
-// A byte has no ASCII meaning.
-pub const NO_ASCII_MEANING: u8 = 24;
-// A length needs more digits than given, or these are not 2 or 3.
-pub const LENGTH_NEEDS_DIGITS: u8 = 25;
-// The till program's input is over 60,000 bytes.
-pub const INPUT_TOO_LONG: u8 = 26;
+// A refusal with no field, at position 0.
+impl From<Cause> for Refusal {
+    ghost from_gives = { λ c r. r ≡ plain c };
+
+    fn from(cause: Cause) -> Refusal {
+        Refusal {
+            cause,
+            field: 0,
+            position: 0,
+        }
+    }
+}
+
+// The till program's form.
+impl fmt::Display for Refusal {
+    fn fmt<W: fmt::Write>(&self, f: &mut fmt::Formatter<W>) -> fmt::Result {
+        let number = self.cause.number();
+        let field = self.field;
+        let position = self.position;
+        write!(f, "refused {number} field {field} at {position}")
+    }
+}
+
+// Whether n bytes fit in out: 14 where they do not.
+pub fn check_room(n: usize, out: &[u8]) -> Result<(), Cause>
+    ensures { result ≡ room n (length out.now) }
+{
+    if out.len() < n {
+        return Err(Cause::OutputTooShort);
+    }
+    Ok(())
+}
+
+// What a check of that field answers, whose test is given: its refusals have position 0.
+#[tactic(auto, unfolding(crate::specs::Refusals::checked))]
+pub fn answer_check(test: Result<(), Cause>, field: usize) -> Result<(), Refusal>
+    ensures { result ≡ checked test field }
+{
+    match test {
+        Ok(()) => Ok(()),
+        Err(cause) => Err(cause.at(field, 0)),
+    }
+}

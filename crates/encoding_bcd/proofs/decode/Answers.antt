@@ -1,17 +1,22 @@
 -- A conversion has three ends: the source fails, the output is too short, or the bytes are written.
-use Rattle.refusal.proofs.Conversions.{refused_answer, refused_output, short_answer, short_output, done_answer, done_output, answer_tells}
+use Rattle.refusal.proofs.Conversions.{source_refused, room_refused, done}
 use Rattle.encoding_bcd.proofs.Faults.{decode_clean, unpacked_sized}
-use borrow.Author.Rules.{rules}
 use Rattle.encoding_bcd.proofs.decode.Goals as goal
 
-pub returns-then-fault-ne0 : goal.returns-then-fault-ne0
-returns-then-fault-ne0 c = let r = answer_tells (search (refused_answer, rules)) (search (refused_output, rules)) in record { answers = r.0; tells = r.1.0; writes = r.1.1 }
+pub returns-in_err-decode_fault : goal.returns-in_err-decode_fault
+returns-in_err-decode_fault c =
+    let r = source_refused c.in_err-decode_fault.ensures c.from_residual.ensures.1 in
+    record { answers = r.answers; tells = r.tells; writes = r.writes }
 
-pub returns-then-out-digits : goal.returns-then-out-digits
-returns-then-out-digits c = let r = answer_tells (search (short_answer, unpacked_sized, rules)) (search (short_output, unpacked_sized, rules)) in record { answers = r.0; tells = r.1.0; writes = r.1.1 }
+pub returns-in_err-check_room : goal.returns-in_err-check_room
+returns-in_err-check_room c =
+    let r = room_refused c.in_ok-decode_fault.ensures (unpacked_sized _ _ _ c.decode_fault.ensures c.in_ok-decode_fault.was) c.in_err-check_room.ensures c.from_residual-in_err-check_room.ensures.1 in
+    record { answers = r.answers; tells = r.tells; writes = r.writes }
 
-pub put_unpacked-requires : goal.put_unpacked-requires
-put_unpacked-requires c = record { whole = search (decode_clean, rules); room = search rules }
+pub put_unpacked-requires-clause-whole : goal.put_unpacked-requires-clause-whole
+put_unpacked-requires-clause-whole c = decode_clean _ _ _ c.decode_fault.ensures c.in_ok-decode_fault.was
 
 pub returns : goal.returns
-returns c = let r = answer_tells (search (done_answer, unpacked_sized, rules)) (search (done_output, unpacked_sized, rules)) in record { answers = r.0; tells = r.1.0; writes = r.1.1 }
+returns c =
+    let r = done c.in_ok-decode_fault.ensures (unpacked_sized _ _ _ c.decode_fault.ensures c.in_ok-decode_fault.was) c.in_ok-check_room.ensures c.put_unpacked.ensures in
+    record { answers = r.answers; tells = r.tells; writes = r.writes }

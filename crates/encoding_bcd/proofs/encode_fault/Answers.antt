@@ -1,10 +1,11 @@
--- The source is all digits or it is not.
-use Rattle.encoding_bcd.proofs.Faults.{digits_pass, digits_fail}
 use borrow.Author.Rules.{rules}
+use Rattle.encoding_bcd.specs.Bcd.{encode_fault}
 use Rattle.encoding_bcd.proofs.encode_fault.Goals as goal
 
-pub returns-then-all_between : goal.returns-then-all_between
-returns-then-all_between c = search (digits_pass, rules)
+pub returns-then-not-all_between : goal.returns-then-not-all_between
+unfolding encode_fault
+returns-then-not-all_between c = search rules
 
 pub returns : goal.returns
-returns c = search (digits_fail, rules)
+unfolding encode_fault
+returns c = search rules

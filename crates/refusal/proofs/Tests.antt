@@ -1,0 +1,21 @@
+-- What a test finds, and what `?` hands on of it. Assumes nothing.
+use Prim.Native.Nat.{ℕ}
+use mathlib.Core.Path.{◌≡◌, refl, ap, ◌∙◌}
+use native.Mathlib.Omega.{arith}
+use Rattle.std.specs.Prelude.{Result, Ok, Err}
+use Rattle.std.specs.Result.{IsErrAnd}
+use Rattle.std.proofs.lemmas.Result.{err_from_is_err_and}
+use Rattle.refusal.specs.Refusals.{plain, Test, good, bad}
+use Rattle.refusal.specs.declared.Cause.{Cause}
+use Rattle.refusal.specs.declared.Refusal.{Refusal}
+
+pub bad_good : {P : Type 0} (c : Cause) → bad c ≡ good → P
+bad_good c e = absurd (let z : ◌≡◌ {A = ℕ} 0 1 = cc in omega arith)
+
+pub by_test : {P : Type 0} (t : Test) → (t ≡ good → P) → ((c : Cause) → t ≡ bad c → P) → P
+by_test (Ok x) g b = g refl
+by_test (Err c) g b = b c refl
+
+-- the cause that a test found becomes a refusal with no field, at position 0
+pub handed_on : {A : Type 0} {r : Result A Refusal} {c : Cause} → IsErrAnd r (λ x. x ≡ plain c) → r ≡ Err (plain c)
+handed_on {A} {r} {c} h = let found = err_from_is_err_and r h in found.1 ∙ ap Err found.2
