@@ -8,6 +8,7 @@ use native.Mathlib.Omega.{arith}
 use lib.ListN.{length, take, drop}
 use lib.Seq.{get_or-take}
 use lib.Dec.{leb}
+use Rattle.std.specs.Prelude.{Result, Ok, Err}
 use borrow.Author.Tests.{lt-ltb, le-ltb, le-leb, leb-true, not-true, not-false}
 use Rattle.octets.proofs.Cases.{by_bool, by_lt}
 use Rattle.octets.proofs.Parts.{to_end}
@@ -17,51 +18,44 @@ use Rattle.refusal.specs.declared.Refusal.{Refusal}
 use Rattle.bitmap.specs.Bits.{bit_of}
 use Rattle.bitmap.specs.Bitmaps.{count_of}
 use Rattle.bitmap.proofs.Maps.{count_least, count_most}
-use Rattle.bitmap_read.specs.declared.BitmapsRead.{BitmapsRead}
-use Rattle.bitmap_read.specs.declared.BitmapsRead.TheVariants.{Count, Refused}
 use Rattle.bitmap_read.specs.Found.{maps_of, bitmaps_read}
 
 -- the ends of `read_bitmaps`: its bitmaps are the part of the input from a on
 module _ (s : List ℕ) (a : ℕ) where
-  pub maps_no_start : (r : BitmapsRead) → length s < a → r ≡ Refused (refusal bitmap_incomplete 0 a) → r ≡ bitmaps_read a 3 s
+  pub maps_no_first : (r : Refusal) → length s - a < 8 → r ≡ refusal bitmap_incomplete 0 a → Err r ≡ bitmaps_read a 3 s
   unfolding bitmaps_read
-  maps_no_start r h e = rw (lt-ltb (length s) (a + 8) (omega arith)) e
+  maps_no_first r h e = rw (e, lt-ltb (length s) (a + 8) (omega arith))
 
-  module _ (start : a ≤ length s) where
-    pub maps_no_first : (r : BitmapsRead) → length s - a < 8 → r ≡ Refused (refusal bitmap_incomplete 0 a) → r ≡ bitmaps_read a 3 s
+  module _ (one : 8 ≤ length s - a) (flag : Bool) (first : flag ≡ bit_of (take (length s - a) (drop a s)) 1) where
+    first_is : flag ≡ bit_of (drop a s) 1
+    first_is = first ∙ ap (λ (l : List ℕ). bit_of l 1) (to_end a s)
+
+    pub maps_one : not flag ≡ true → Ok 1 ≡ bitmaps_read a 3 s
     unfolding bitmaps_read
-    maps_no_first r h e = rw (lt-ltb (length s) (a + 8) (omega arith)) e
+    maps_one t = rw (le-ltb (length s) (a + 8) (omega arith), ← first_is, not-true flag t)
 
-    module _ (one : 8 ≤ length s - a) (flag : Bool) (first : flag ≡ bit_of (take (length s - a) (drop a s)) 1) where
-      first_is : flag ≡ bit_of (drop a s) 1
-      first_is = first ∙ ap (λ (l : List ℕ). bit_of l 1) (to_end a s)
-
-      pub maps_one : not flag ≡ true → Count 1 ≡ bitmaps_read a 3 s
+    module _ (on : not flag ≡ false) where
+      pub maps_no_second : (r : Refusal) → length s - a < 16 → r ≡ refusal bitmap_incomplete 0 (a + 8) → Err r ≡ bitmaps_read a 3 s
       unfolding bitmaps_read
-      maps_one t = rw (le-ltb (length s) (a + 8) (omega arith), ← first_is, not-true flag t)
+      maps_no_second r h e = rw (e, le-ltb (length s) (a + 8) (omega arith), ← first_is, not-false flag on, lt-ltb (length s) (a + 16) (omega arith))
 
-      module _ (on : not flag ≡ false) where
-        pub maps_no_second : (r : BitmapsRead) → length s - a < 16 → r ≡ Refused (refusal bitmap_incomplete 0 (a + 8)) → r ≡ bitmaps_read a 3 s
+      module _ (two : 16 ≤ length s - a) (flag2 : Bool) (second : flag2 ≡ bit_of (take (length s - a) (drop a s)) 65) where
+        second_is : flag2 ≡ bit_of (drop a s) 65
+        second_is = second ∙ ap (λ (l : List ℕ). bit_of l 65) (to_end a s)
+
+        pub maps_two : not flag2 ≡ true → Ok 2 ≡ bitmaps_read a 3 s
         unfolding bitmaps_read
-        maps_no_second r h e = rw (le-ltb (length s) (a + 8) (omega arith), ← first_is, not-false flag on, lt-ltb (length s) (a + 16) (omega arith)) e
+        maps_two t = rw (le-ltb (length s) (a + 8) (omega arith), ← first_is, not-false flag on, le-ltb (length s) (a + 16) (omega arith), ← second_is, not-true flag2 t)
 
-        module _ (two : 16 ≤ length s - a) (flag2 : Bool) (second : flag2 ≡ bit_of (take (length s - a) (drop a s)) 65) where
-          second_is : flag2 ≡ bit_of (drop a s) 65
-          second_is = second ∙ ap (λ (l : List ℕ). bit_of l 65) (to_end a s)
+        pub maps_no_third : (r : Refusal) → not flag2 ≡ false → length s - a < 24 → r ≡ refusal bitmap_incomplete 0 (a + 16) → Err r ≡ bitmaps_read a 3 s
+        unfolding bitmaps_read
+        maps_no_third r t h e =
+            rw (e, le-ltb (length s) (a + 8) (omega arith), ← first_is, not-false flag on, le-ltb (length s) (a + 16) (omega arith), ← second_is, not-false flag2 t, lt-ltb (length s) (a + 24) (omega arith))
 
-          pub maps_two : not flag2 ≡ true → Count 2 ≡ bitmaps_read a 3 s
-          unfolding bitmaps_read
-          maps_two t = rw (le-ltb (length s) (a + 8) (omega arith), ← first_is, not-false flag on, le-ltb (length s) (a + 16) (omega arith), ← second_is, not-true flag2 t)
-
-          pub maps_no_third : (r : BitmapsRead) → not flag2 ≡ false → length s - a < 24 → r ≡ Refused (refusal bitmap_incomplete 0 (a + 16)) → r ≡ bitmaps_read a 3 s
-          unfolding bitmaps_read
-          maps_no_third r t h e =
-              rw (le-ltb (length s) (a + 8) (omega arith), ← first_is, not-false flag on, le-ltb (length s) (a + 16) (omega arith), ← second_is, not-false flag2 t, lt-ltb (length s) (a + 24) (omega arith)) e
-
-          pub maps_three : not flag2 ≡ false → 24 ≤ length s - a → Count 3 ≡ bitmaps_read a 3 s
-          unfolding bitmaps_read
-          maps_three t h =
-              rw (le-ltb (length s) (a + 8) (omega arith), ← first_is, not-false flag on, le-ltb (length s) (a + 16) (omega arith), ← second_is, not-false flag2 t, le-ltb (length s) (a + 24) (omega arith))
+        pub maps_three : not flag2 ≡ false → 24 ≤ length s - a → Ok 3 ≡ bitmaps_read a 3 s
+        unfolding bitmaps_read
+        maps_three t h =
+            rw (le-ltb (length s) (a + 8) (omega arith), ← first_is, not-false flag on, le-ltb (length s) (a + 16) (omega arith), ← second_is, not-false flag2 t, le-ltb (length s) (a + 24) (omega arith))
 
 -- What it means that k bitmaps are found, the first at a, where at most m are taken.
 pub record FoundMaps (a m : ℕ) (s : List ℕ) (k : ℕ) : Type 0 where
@@ -81,10 +75,10 @@ pub bit_front : (s : List ℕ) (n f : ℕ) → (f - 1) / 8 < n → bit_of (take 
 unfolding bit_of
 bit_front s n f h = rw (get_or-take n s ((f - 1) / 8) 0 h)
 
-never : (o : BitmapsRead) (r : Refusal) (k : ℕ) → o ≡ Refused r → o ≡ Count k → ⊥
+never : (o : Result ℕ Refusal) (r : Refusal) (k : ℕ) → o ≡ Err r → o ≡ Ok k → ⊥
 never o r k p q = let z : ◌≡◌ {A = ℕ} 0 1 = cc in omega arith
 
-same : (o : BitmapsRead) (j k : ℕ) → o ≡ Count j → o ≡ Count k → j ≡ k
+same : (o : Result ℕ Refusal) (j k : ℕ) → o ≡ Ok j → o ≡ Ok k → j ≡ k
 same o j k p q = cc
 
 module _ (a m : ℕ) (s : List ℕ) where
@@ -101,7 +95,7 @@ module _ (a m : ℕ) (s : List ℕ) where
   unfolding count_of maps_of
   count_3 b c = rw (bit_front (drop a s) (8 * 3) 1 (omega arith), bit_front (drop a s) (8 * 3) 65 (omega arith), b, c)
 
-  pub maps_found : (k : ℕ) → 2 ≤ m → bitmaps_read a m s ≡ Count k → FoundMaps a m s k
+  pub maps_found : (k : ℕ) → 2 ≤ m → bitmaps_read a m s ≡ Ok k → FoundMaps a m s k
   unfolding bitmaps_read
   maps_found k most e =
       by_lt (length s) (a + 8) (λ h. absurd (never _ (refusal bitmap_incomplete 0 a) k (rw (lt-ltb (length s) (a + 8) h)) e))
@@ -121,7 +115,7 @@ module _ (a m : ℕ) (s : List ℕ) where
       let j : 1 ≡ k = same _ 1 k (rw (le-ltb (length s) (a + 8) one, b)) e in
       rw (← j) (record { chained = count_1 b; long = one; few = omega arith })))
 
-  pub maps_read : (k : ℕ) → FoundMaps a m s k → bitmaps_read a m s ≡ Count k
+  pub maps_read : (k : ℕ) → FoundMaps a m s k → bitmaps_read a m s ≡ Ok k
   unfolding bitmaps_read count_of maps_of
   maps_read k h =
       by_bool (bit_of (maps_of a s k) 1)

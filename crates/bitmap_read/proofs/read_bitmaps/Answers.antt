@@ -1,13 +1,7 @@
 -- One law for each end, in Found.
-use Prim.Native.Nat.{◌-◌, ◌<◌}
-use native.Mathlib.Omega.{arith}
-use lib.ListN.{length}
-use Rattle.bitmap_read.proofs.Found.{maps_no_start, maps_no_first, maps_one, maps_no_second, maps_two, maps_no_third, maps_three}
+use Rattle.bitmap_read.proofs.Found.{maps_no_first, maps_one, maps_no_second, maps_two, maps_no_third, maps_three}
 use borrow.Author.Rules.{rules}
 use Rattle.bitmap_read.proofs.read_bitmaps.Goals as goal
-
-pub returns-then-input-start : goal.returns-then-input-start
-returns-then-input-start c = search (maps_no_start, rules)
 
 pub returns-then-left-lt8 : goal.returns-then-left-lt8
 returns-then-left-lt8 c = search (maps_no_first, rules)
@@ -22,8 +16,7 @@ pub returns-then-not-is_set-2 : goal.returns-then-not-is_set-2
 returns-then-not-is_set-2 c = search (maps_two, rules)
 
 pub returns-then-left-lt24 : goal.returns-then-left-lt24
-returns-then-left-lt24 c = let short : length c.args.input.now - c.args.start < 24 = omega arith in
-    search (maps_no_third, short, rules)
+returns-then-left-lt24 c = search (maps_no_third, rules)
 
 pub returns : goal.returns
 returns c = search (maps_three, rules)
