@@ -9,6 +9,7 @@ use Rattle.octets.specs.Lists.{between, all}
 use Rattle.octets.specs.Numbers.{is_ascii}
 use Rattle.octets.proofs.Cases.{by_lt, both_left, both_right, false_true}
 use Rattle.octets.proofs.Lists.{between_high}
+use Rattle.refusal.specs.Refusals.{good}
 use Rattle.encoding_ebcdic.specs.Ebcdic.{table, ascii_of, ebcdic_of, means_ascii, encode_fault, decode_fault}
 use Rattle.encoding_ebcdic.proofs.Permutation.{table_length, ascii_of_ebcdic, ebcdic_of_ascii}
 use Rattle.encoding_ebcdic.proofs.Faults.{encode_clean, decode_clean}
@@ -30,11 +31,11 @@ map_back (x ∷ s) t =
     rw (ascii_back x (both_left (is_ascii x) (all is_ascii s) t), map_back s (both_right (is_ascii x) (all is_ascii s) t))
 
 -- Text that is not refused in encoding comes back from decoding as it was.
-pub decoded_encoded : (s : List ℕ) → encode_fault s ≡ 0 → map ascii_of (map ebcdic_of s) ≡ s
+pub decoded_encoded : (s : List ℕ) → encode_fault s ≡ good → map ascii_of (map ebcdic_of s) ≡ s
 decoded_encoded s z = map_back s (encode_clean s z)
 
 -- The EBCDIC of text that is not refused in encoding is not refused in decoding.
-pub encoded_decodes : (s : List ℕ) → encode_fault s ≡ 0 → decode_fault (map ebcdic_of s) ≡ 0
+pub encoded_decodes : (s : List ℕ) → encode_fault s ≡ good → decode_fault (map ebcdic_of s) ≡ good
 unfolding decode_fault
 encoded_decodes s z = rw (encoded_means s (encode_clean s z))
 
@@ -58,10 +59,10 @@ map_forth (b ∷ s) t =
     rw (ebcdic_of_ascii b h, map_forth s (both_right (means_ascii b) (all means_ascii s) t))
 
 -- Bytes that are not refused in decoding come back from encoding as they were.
-pub encoded_decoded : (s : List ℕ) → decode_fault s ≡ 0 → map ebcdic_of (map ascii_of s) ≡ s
+pub encoded_decoded : (s : List ℕ) → decode_fault s ≡ good → map ebcdic_of (map ascii_of s) ≡ s
 encoded_decoded s z = map_forth s (decode_clean s z)
 
 -- The text of bytes that are not refused in decoding is not refused in encoding.
-pub decoded_encodes : (s : List ℕ) → decode_fault s ≡ 0 → encode_fault (map ascii_of s) ≡ 0
+pub decoded_encodes : (s : List ℕ) → decode_fault s ≡ good → encode_fault (map ascii_of s) ≡ good
 unfolding encode_fault
 decoded_encodes s z = rw (decoded_ascii s (decode_clean s z))

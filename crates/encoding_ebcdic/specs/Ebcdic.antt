@@ -7,14 +7,15 @@
 --   ascii_of b      == the meaning of the EBCDIC byte b; 256, which is no byte, where b is none
 --   ebcdic_of x     == the EBCDIC byte whose meaning is x
 --   means_ascii b   == the meaning of b is ASCII
---   encode_fault s  == 01's number of the test that s fails as a source of ASCII text, or 0
---   decode_fault s  == 01's number of the test that s fails as a source of EBCDIC text, or 0
+--   encode_fault s  == what the test of s as a source of ASCII text finds
+--   decode_fault s  == what the test of s as a source of EBCDIC text finds
 --
 -- Assumes nothing: these are definitions.
 use Rattle.std.specs.Prelude.{ℕ, zero, suc, ◌<◌, ◌≡◌, Bool, cond, List, [], ◌∷◌, length, get_or, eqb}
 use Rattle.octets.specs.Lists.{all}
 use Rattle.octets.specs.Numbers.{is_ascii}
 use Rattle.refusal.specs.Numbers.{no_ascii_meaning}
+use Rattle.refusal.specs.Refusals.{Test, good, bad}
 
 -- 01: "The 256 entries of the EBCDIC table in `encoding.rs`", sixteen to a line
 unfoldable pub table : List ℕ
@@ -60,8 +61,8 @@ unfoldable pub means_ascii : ℕ → Bool
 means_ascii b = is_ascii (ascii_of b)
 
 -- 01: "byte has no ASCII meaning"
-unfoldable pub encode_fault : List ℕ → ℕ
-encode_fault s = cond (all is_ascii s) 0 no_ascii_meaning
+unfoldable pub encode_fault : List ℕ → Test
+encode_fault s = cond (all is_ascii s) good (bad no_ascii_meaning)
 
-unfoldable pub decode_fault : List ℕ → ℕ
-decode_fault s = cond (all means_ascii s) 0 no_ascii_meaning
+unfoldable pub decode_fault : List ℕ → Test
+decode_fault s = cond (all means_ascii s) good (bad no_ascii_meaning)

@@ -10,7 +10,7 @@ ghost use Rattle.encoding_ebcdic.specs.Ebcdic.{table, ascii_of, ebcdic_of, entry
 
 use inverse::INVERSE;
 use octets::all_between;
-use refusal::{NO_ASCII_MEANING, OUTPUT_TOO_SHORT, Output, Refusal};
+use refusal::{Cause, Refusal, check_room};
 
 // What each EBCDIC byte means. A call takes it into a local once: to index the constant would lay it down anew for each byte.
 const TABLE: [u8; 256] = [
@@ -33,78 +33,53 @@ const TABLE: [u8; 256] = [
 ];
 
 // Writes the ASCII text of src in EBCDIC: 24 where a byte of src is over 0x7F, then 14.
-pub fn encode(src: &[u8], out: &mut [u8]) -> Output
+pub fn encode(src: &[u8], out: &mut [u8]) -> Result<usize, Refusal>
     ensures answers { result ≡ converted (encode_fault src.now) (map ebcdic_of src.now) out.old }
     ensures tells { told result ≡ told (converted (encode_fault src.now) (map ebcdic_of src.now) out.old) }
     ensures writes { out.new ≡ converted_into (encode_fault src.now) (map ebcdic_of src.now) out.old }
 {
-    let fault = encode_fault(src);
-    if fault != 0 {
-        return Output::Refused(Refusal {
-            number: fault,
-            field: 0,
-            position: 0,
-        });
-    }
-    if out.len() < src.len() {
-        return Output::Refused(Refusal {
-            number: OUTPUT_TOO_SHORT,
-            field: 0,
-            position: 0,
-        });
-    }
+    encode_fault(src)?;
+    check_room(src.len(), out)?;
     let bytes = INVERSE;
     translate(src, &bytes, out);
-    Output::Written(src.len())
+    Ok(src.len())
 }
 
 // Writes the EBCDIC text of src in ASCII: 24 where the meaning of a byte is over 0x7F, then 14.
-pub fn decode(src: &[u8], out: &mut [u8]) -> Output
+pub fn decode(src: &[u8], out: &mut [u8]) -> Result<usize, Refusal>
     ensures answers { result ≡ converted (decode_fault src.now) (map ascii_of src.now) out.old }
     ensures tells { told result ≡ told (converted (decode_fault src.now) (map ascii_of src.now) out.old) }
     ensures writes { out.new ≡ converted_into (decode_fault src.now) (map ascii_of src.now) out.old }
 {
     let meanings = TABLE;
-    let fault = decode_fault(src, &meanings);
-    if fault != 0 {
-        return Output::Refused(Refusal {
-            number: fault,
-            field: 0,
-            position: 0,
-        });
-    }
-    if out.len() < src.len() {
-        return Output::Refused(Refusal {
-            number: OUTPUT_TOO_SHORT,
-            field: 0,
-            position: 0,
-        });
-    }
+    decode_fault(src, &meanings)?;
+    check_room(src.len(), out)?;
     translate(src, &meanings, out);
-    Output::Written(src.len())
+    Ok(src.len())
 }
 
-fn encode_fault(src: &[u8]) -> u8
+#[tactic(auto, unfolding(crate::specs::Ebcdic::encode_fault))]
+fn encode_fault(src: &[u8]) -> Result<(), Cause>
     ensures { result ≡ encode_fault src.now }
 {
-    if all_between(src, 0, 0x7F) {
-        return 0;
+    if !all_between(src, 0, 0x7F) {
+        return Err(Cause::NoAsciiMeaning);
     }
-    NO_ASCII_MEANING
+    Ok(())
 }
 
-fn decode_fault(src: &[u8], meanings: &[u8; 256]) -> u8
+fn decode_fault(src: &[u8], meanings: &[u8; 256]) -> Result<(), Cause>
     requires { meanings.now ≡ table }
     ensures { result ≡ decode_fault src.now }
 {
     let mut i = 0;
     while i < src.len() {
         if 0x7F < meanings[src[i] as usize] {
-            return NO_ASCII_MEANING;
+            return Err(Cause::NoAsciiMeaning);
         }
         i += 1;
     }
-    0
+    Ok(())
 }
 
 // Writes for each byte of src its entry in the table.
