@@ -9,18 +9,19 @@ ghost use Rattle.field_table.specs.Codes.{decoded};
 ghost use Rattle.field_read.specs.Items.{length_of, read_item, read_field, place_field};
 
 use field_table::Class;
+use refusal::Cause;
 
-// The content starts at start in the rest and is length bytes long; or the number of the refusal.
+// The content starts at start in the rest and is length bytes long.
 #[derive(Clone, Copy)]
-pub enum FieldRead {
-    Content { start: usize, length: usize },
-    Refused(u8),
+pub struct Content {
+    pub start: usize,
+    pub length: usize,
 }
 
 // Reads field number at the front of rest by the table lent, whatever it holds; the caller knows where rest stands in the message, and
 // adds field and position to a refusal. A number that the table has no field for is read as an empty content: which numbers are fields,
 // the bitmaps say.
-pub fn read_field(rest: &[u8], number: usize, table: &[u16]) -> FieldRead
+pub fn read_field(rest: &[u8], number: usize, table: &[u16]) -> Result<Content, Cause>
     ensures { result ≡ read_field (decoded table.now) number rest.now }
 {
     let width = field_table::width_in(table, number);
@@ -31,7 +32,7 @@ pub fn read_field(rest: &[u8], number: usize, table: &[u16]) -> FieldRead
 
 // Finds the content of field number and asks about none of its bytes: where read_field answers 8, it answers the content's place; else
 // the same.
-pub fn place_field(rest: &[u8], number: usize, table: &[u16]) -> FieldRead
+pub fn place_field(rest: &[u8], number: usize, table: &[u16]) -> Result<Content, Cause>
     ensures { result ≡ place_field (decoded table.now) number rest.now }
 {
     let width = field_table::width_in(table, number);
@@ -40,32 +41,32 @@ pub fn place_field(rest: &[u8], number: usize, table: &[u16]) -> FieldRead
 }
 
 // Reads a field with that many length digits, that length or greatest length, and that class.
-fn read_item(rest: &[u8], width: usize, most: usize, class: Class) -> FieldRead
+fn read_item(rest: &[u8], width: usize, most: usize, class: Class) -> Result<Content, Cause>
     requires { width ≤ 3 }
     ensures { result ≡ read_item width most class rest.now }
 {
     if rest.len() < width {
-        return FieldRead::Refused(refusal::PAST_THE_END);
+        return Err(Cause::PastTheEnd);
     }
     let digits = &rest[..width];
     if !octets::all_between(digits, b'0', b'9') {
-        return FieldRead::Refused(refusal::LENGTH_NOT_DIGITS);
+        return Err(Cause::LengthNotDigits);
     }
     let length = content_length(digits, width, most);
     if most < length {
-        return FieldRead::Refused(refusal::LENGTH_OVER_TABLE);
+        return Err(Cause::LengthOverTable);
     }
     if rest.len() - width < length {
-        return FieldRead::Refused(refusal::PAST_THE_END);
+        return Err(Cause::PastTheEnd);
     }
     let end = width + length;
     if !is_allowed(class, &rest[width..end]) {
-        return FieldRead::Refused(refusal::TEXT_NOT_ASCII);
+        return Err(Cause::TextNotAscii);
     }
-    FieldRead::Content {
+    Ok(Content {
         start: width,
         length,
-    }
+    })
 }
 
 // How long the content is: as the table says where there are no digits, else as they say.
@@ -83,8 +84,5 @@ fn content_length(digits: &[u8], width: usize, most: usize) -> usize
 fn is_allowed(class: Class, content: &[u8]) -> bool
     ensures { result ≡ either (is_binary class) (all is_ascii content.now) }
 {
-    if field_table::is_binary(class) {
-        return true;
-    }
-    octets::all_between(content, 0, octets::LAST_ASCII)
+    field_table::is_binary(class) || octets::all_between(content, 0, octets::LAST_ASCII)
 }
