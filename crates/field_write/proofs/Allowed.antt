@@ -1,6 +1,6 @@
 -- What it says of a content that a writer does not refuse it, and where the two writers differ. Over any table. Assumes nothing.
 use Prim.Native.Nat.{ℕ, ◌≤◌}
-use mathlib.Core.Path.{◌≡◌, refl, ◌∙◌}
+use mathlib.Core.Path.{◌≡◌, sym, ◌∙◌}
 use mathlib.Core.Bool.{true, false}
 use mathlib.Core.List.{List}
 use native.Mathlib.Omega.{arith}
@@ -9,12 +9,13 @@ use lib.ListN.{length}
 use borrow.Author.Tests.{le-leb, leb-true, eq-eqb, eqb-true, le-ltb, ltb-false}
 use Rattle.octets.specs.Lists.{either, all}
 use Rattle.octets.specs.Numbers.{is_ascii}
-use Rattle.octets.proofs.Cases.{by_bool, passed}
+use Rattle.octets.proofs.Cases.{by_bool}
 use Rattle.refusal.specs.Numbers.{length_not_allowed, text_not_ascii}
+use Rattle.refusal.specs.Refusals.{good, bad}
+use Rattle.refusal.proofs.Tests.{bad_good, passed}
 use Rattle.field_table.specs.Table.{Table, is_binary}
 use Rattle.field_table.specs.declared.Class.{Class}
 use Rattle.field_write.specs.Fields.{is_allowed_length, text_fault, exact_fault, clean_fault, is_short}
-use Rattle.field_write.proofs.Faults.{exact_long}
 
 -- a content that the cleaning writer takes
 pub record Clean (t : Table) (f : ℕ) (s : List ℕ) : Type 0 where
@@ -26,11 +27,11 @@ pub record Exact (t : Table) (f : ℕ) (s : List ℕ) : Type 0 where
   pub fixed : t.width f ≡ 0 → length s ≡ t.most f
   pub clean : Clean t f s
 
-text_passed : (c : Class) (s : List ℕ) → text_fault c s ≡ 0 → either (is_binary c) (all is_ascii s) ≡ true
+text_passed : (c : Class) (s : List ℕ) → text_fault c s ≡ good → either (is_binary c) (all is_ascii s) ≡ true
 unfolding text_fault
-text_passed c s e = (passed (either (is_binary c) (all is_ascii s)) 0 text_not_ascii (omega arith) e).0
+text_passed c s e = (passed (either (is_binary c) (all is_ascii s)) good text_not_ascii e).0
 
-text_passes : (c : Class) (s : List ℕ) → either (is_binary c) (all is_ascii s) ≡ true → text_fault c s ≡ 0
+text_passes : (c : Class) (s : List ℕ) → either (is_binary c) (all is_ascii s) ≡ true → text_fault c s ≡ good
 unfolding text_fault
 text_passes c s e = rw e
 
@@ -65,17 +66,21 @@ module _ (t : Table) (f n : ℕ) where
       (λ e. rw e)
 
 module _ (t : Table) (f : ℕ) (s : List ℕ) where
-  pub clean_passed : clean_fault t f s ≡ 0 → Clean t f s
+  pub clean_passed : clean_fault t f s ≡ good → Clean t f s
   unfolding clean_fault
   clean_passed e =
-      let p = passed (leb (length s) (t.most f)) (text_fault (t.class f) s) length_not_allowed (omega arith) e in
+      let p = passed (leb (length s) (t.most f)) (text_fault (t.class f) s) length_not_allowed e in
       record { most = leb-true (length s) (t.most f) p.0; text = text_passed (t.class f) s p.1 }
 
-  pub clean_passes : Clean t f s → clean_fault t f s ≡ 0
+  pub clean_passes : Clean t f s → clean_fault t f s ≡ good
   unfolding clean_fault
   clean_passes c = rw (le-leb (length s) (t.most f) c.most) (text_passes (t.class f) s c.text)
 
-  pub exact_passed : exact_fault t f s ≡ 0 → Exact t f s
+  exact_long : is_allowed_length t f (length s) ≡ false → exact_fault t f s ≡ bad length_not_allowed
+  unfolding exact_fault
+  exact_long n = rw n
+
+  pub exact_passed : exact_fault t f s ≡ good → Exact t f s
   unfolding exact_fault
   exact_passed e =
       by_bool (is_allowed_length t f (length s))
@@ -84,15 +89,15 @@ module _ (t : Table) (f : ℕ) (s : List ℕ) where
         fixed = allowed_fixed_length t f (length s) y;
         clean = record { most = allowed_most t f (length s) y; text = text_passed (t.class f) s (rw y at e) };
       })
-      (λ y. absurd (omega (arith, exact_long t f s _ refl (rw y) ∙ e)))
+      (λ n. bad_good length_not_allowed (sym (exact_long n) ∙ e))
 
-  pub exact_passes : Exact t f s → exact_fault t f s ≡ 0
+  pub exact_passes : Exact t f s → exact_fault t f s ≡ good
   unfolding exact_fault
   exact_passes x = rw (is_allowed t f (length s) x.fixed x.clean.most) (text_passes (t.class f) s x.clean.text)
 
   -- what the exact writer takes the cleaning writer takes too, and it has nothing to pad there
-  pub exact_is_clean : exact_fault t f s ≡ 0 → clean_fault t f s ≡ 0
+  pub exact_is_clean : exact_fault t f s ≡ good → clean_fault t f s ≡ good
   exact_is_clean e = clean_passes (exact_passed e).clean
 
-  pub exact_not_short : exact_fault t f s ≡ 0 → is_short t f (length s) ≡ false
+  pub exact_not_short : exact_fault t f s ≡ good → is_short t f (length s) ≡ false
   exact_not_short e = long_not_short t f (length s) (λ z. let q = (exact_passed e).fixed z in omega arith)

@@ -13,6 +13,7 @@ use Rattle.octets.specs.Numbers.{is_ascii, digits, decimal, decimal_of}
 use Rattle.octets.proofs.Cases.{by_bool, by_eq}
 use Rattle.octets.proofs.Lists.{all_append}
 use Rattle.octets.proofs.Numbers.{digits_length, number_digits}
+use Rattle.refusal.specs.Refusals.{good}
 use Rattle.field_table.specs.Table.{Table, is_binary, Small}
 use Rattle.field_table.specs.declared.Class.{Class}
 use Rattle.field_table.specs.declared.Class.TheVariants.{N, A, An, Ans, Ns, Z, Xn, B}
@@ -74,17 +75,17 @@ module _ (t : Table) (f : ℕ) (s : List ℕ) where
       (λ z. missing_fixed t f (length s) z ∙ (let l = not_short_long t f (length s) h z in omega arith))
       (λ v. missing_variable t f (length s) v))
 
-  pub exact_unpadded : exact_fault t f s ≡ 0 → field_bytes t f s ≡ decimal (t.width f) (length s) ++ s
+  pub exact_unpadded : exact_fault t f s ≡ good → field_bytes t f s ≡ decimal (t.width f) (length s) ++ s
   unfolding field_bytes
   exact_unpadded e = rw (not_short_whole (exact_not_short t f s e))
 
   -- a fixed content is padded to the table's length
-  pub clean_allowed : clean_fault t f s ≡ 0 → t.width f ≡ 0 → length (cleaned t f s) ≡ t.most f
+  pub clean_allowed : clean_fault t f s ≡ good → t.width f ≡ 0 → length (cleaned t f s) ≡ t.most f
   clean_allowed e z =
       let m = (clean_passed t f s e).most in
       omega (arith, cleaned_length, missing_fixed t f (length s) z)
 
-  pub cleaned_most : clean_fault t f s ≡ 0 → length (cleaned t f s) ≤ t.most f
+  pub cleaned_most : clean_fault t f s ≡ good → length (cleaned t f s) ≤ t.most f
   cleaned_most e =
       let m = (clean_passed t f s e).most in
       by_eq (t.width f) 0
@@ -97,7 +98,7 @@ module _ (t : Table) (f : ℕ) (s : List ℕ) where
       by_bool (is_binary (t.class f)) (λ e. rw e) (λ e. rw e (padded_text (t.class f) (missing t f (length s)) s (rw e at h)))
 
   -- what the cleaning writer takes is, once padded, what the exact writer takes, and their bytes are the same
-  pub cleaned_exact : clean_fault t f s ≡ 0 → exact_fault t f (cleaned t f s) ≡ 0
+  pub cleaned_exact : clean_fault t f s ≡ good → exact_fault t f (cleaned t f s) ≡ good
   cleaned_exact e =
       exact_passes t f (cleaned t f s)
       record {
@@ -105,7 +106,7 @@ module _ (t : Table) (f : ℕ) (s : List ℕ) where
         clean = record { most = cleaned_most e; text = cleaned_text (clean_passed t f s e).text };
       }
 
-pub cleaned_bytes : (t : Table) (f : ℕ) (s : List ℕ) → clean_fault t f s ≡ 0 → field_bytes t f (cleaned t f s) ≡ field_bytes t f s
+pub cleaned_bytes : (t : Table) (f : ℕ) (s : List ℕ) → clean_fault t f s ≡ good → field_bytes t f (cleaned t f s) ≡ field_bytes t f s
 unfolding field_bytes digits
 cleaned_bytes t f s e =
     exact_unpadded t f (cleaned t f s) (cleaned_exact t f s e)
@@ -114,13 +115,13 @@ cleaned_bytes t f s e =
     (λ v. ap (λ (n : ℕ). decimal (t.width f) n ++ cleaned t f s) (omega (arith, cleaned_length t f s, missing_variable t f (length s) v)))
 
 -- what `written_size` answers is the size, where the content is taken
-pub clean_size : (t : Table) (f : ℕ) (s : List ℕ) → Bounded t → clean_fault t f s ≡ 0 → cond (leb (length s) longest) (written_size t f (length s)) 0 ≡ length (field_bytes t f s)
+pub clean_size : (t : Table) (f : ℕ) (s : List ℕ) → Bounded t → clean_fault t f s ≡ good → cond (leb (length s) longest) (written_size t f (length s)) 0 ≡ length (field_bytes t f s)
 clean_size t f s small e =
     let m = (clean_passed t f s e).most in
     rw (le-leb (length s) longest (omega (arith, small.most_small f))) (sym (written_size_lem t f s))
 
 -- the length digits of a content that is taken spell its length
-pub digits_spell : (t : Table) (f : ℕ) (s : List ℕ) → Small t → clean_fault t f s ≡ 0 → (t.width f ≡ 0 → ⊥) → decimal_of (decimal (t.width f) (length s)) ≡ length s
+pub digits_spell : (t : Table) (f : ℕ) (s : List ℕ) → Small t → clean_fault t f s ≡ good → (t.width f ≡ 0 → ⊥) → decimal_of (decimal (t.width f) (length s)) ≡ length s
 digits_spell t f s small e v =
     let m = (clean_passed t f s e).most in
     let l = small.most_spelt f v in

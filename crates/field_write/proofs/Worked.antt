@@ -5,6 +5,7 @@ use mathlib.Core.List.{List, [], ◌∷◌}
 use Rattle.octets.specs.Lists.{between}
 use Rattle.octets.specs.Numbers.{digits}
 use Rattle.refusal.specs.Numbers.{length_not_allowed, text_not_ascii}
+use Rattle.refusal.specs.Refusals.{good, bad}
 use Rattle.field_table.specs.House.{house_rows, house}
 use Rattle.field_write.specs.Fields.{is_allowed_length, text_fault, exact_fault, clean_fault, missing, padded, cleaned, field_bytes}
 
@@ -34,13 +35,13 @@ pub record Worked : Type 0 where
   -- field 48, up to 999 with three: `000` where it is empty
   pub three_digits : field_bytes house 48 [] ≡ 0x30 ∷ 0x30 ∷ 0x30 ∷ []
   -- too short, for the exact writer only; too long, for both; and an empty variable content for neither
-  pub short_exact : exact_fault house 25 five ≡ length_not_allowed
-  pub short_clean : clean_fault house 25 five ≡ 0
-  pub long_clean : clean_fault house 27 twelve ≡ length_not_allowed
-  pub empty_exact : exact_fault house 48 [] ≡ 0
+  pub short_exact : exact_fault house 25 five ≡ bad length_not_allowed
+  pub short_clean : clean_fault house 25 five ≡ good
+  pub long_clean : clean_fault house 27 twelve ≡ bad length_not_allowed
+  pub empty_exact : exact_fault house 48 [] ≡ good
   -- 0x80 is no text; the length is tested before it
-  pub high_text : exact_fault house 27 (0x80 ∷ []) ≡ text_not_ascii
-  pub length_first : exact_fault house 25 (0x80 ∷ []) ≡ length_not_allowed
+  pub high_text : exact_fault house 27 (0x80 ∷ []) ≡ bad text_not_ascii
+  pub length_first : exact_fault house 25 (0x80 ∷ []) ≡ bad length_not_allowed
 
 pub worked : Worked
 unfolding field_bytes cleaned missing padded digits exact_fault clean_fault is_allowed_length text_fault between house house_rows

@@ -1,8 +1,8 @@
 -- Writing one field of a table t: whether its content s may be written, what it takes, and its bytes.
 --
 --   is_allowed_length t f n  == a content of field f may be n bytes long: exactly the table's length where it is fixed, else up to that
---   text_fault c s           == 8 where s is text by its class c and has a byte over 0x7F, else 0
---   exact_fault t f s        == why the exact writer refuses the content s of field f: 12, then 8; 0 where it does not
+--   text_fault c s           == 8 where s is text by its class c and has a byte over 0x7F, else good
+--   exact_fault t f s        == why the exact writer refuses the content s of field f: 12, then 8; good where it does not
 --   clean_fault t f s        == the same of the cleaning writer
 --   is_short t f n           == field f is fixed, and n is under its length
 --   missing t f n            == by how many bytes a content of n bytes is too short; a variable one never is
@@ -20,6 +20,7 @@ use Rattle.std.specs.Prelude.{ℕ, ◌+◌, ◌-◌, Bool, true, false, cond, Li
 use Rattle.octets.specs.Lists.{both, either, all, placed}
 use Rattle.octets.specs.Numbers.{is_ascii, decimal}
 use Rattle.refusal.specs.Numbers.{length_not_allowed, text_not_ascii}
+use Rattle.refusal.specs.Refusals.{Test, good, bad}
 use Rattle.field_table.specs.Table.{Table, is_binary}
 use Rattle.field_table.specs.declared.Class.{Class}
 use Rattle.field_table.specs.declared.Class.TheVariants.{N, A, An, Ans, Ns, Z, Xn, B}
@@ -29,15 +30,15 @@ unfoldable pub is_allowed_length : Table → ℕ → ℕ → Bool
 is_allowed_length t f n = cond (eqb (t.width f) 0) (eqb n (t.most f)) (leb n (t.most f))
 
 -- 01: "text is any bytes up to 0x7F, binary is any bytes"
-unfoldable pub text_fault : Class → List ℕ → ℕ
-text_fault c s = cond (either (is_binary c) (all is_ascii s)) 0 text_not_ascii
+unfoldable pub text_fault : Class → List ℕ → Test
+text_fault c s = cond (either (is_binary c) (all is_ascii s)) good (bad text_not_ascii)
 
 -- 01: "field: 9, 10, 11, 12, 8", of which 9 to 11 are the notes'; 12 is "length not allowed (cleaning: too long only)"
-unfoldable pub exact_fault : Table → ℕ → List ℕ → ℕ
-exact_fault t f s = cond (is_allowed_length t f (length s)) (text_fault (t.class f) s) length_not_allowed
+unfoldable pub exact_fault : Table → ℕ → List ℕ → Test
+exact_fault t f s = cond (is_allowed_length t f (length s)) (text_fault (t.class f) s) (bad length_not_allowed)
 
-unfoldable pub clean_fault : Table → ℕ → List ℕ → ℕ
-clean_fault t f s = cond (leb (length s) (t.most f)) (text_fault (t.class f) s) length_not_allowed
+unfoldable pub clean_fault : Table → ℕ → List ℕ → Test
+clean_fault t f s = cond (leb (length s) (t.most f)) (text_fault (t.class f) s) (bad length_not_allowed)
 
 -- 01: "a fixed content that is too short is padded"
 unfoldable pub is_short : Table → ℕ → ℕ → Bool

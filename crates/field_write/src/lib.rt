@@ -8,26 +8,29 @@ ghost use Rattle.field_table.specs.Codes.{decoded};
 ghost use Rattle.field_write.specs.Fields.{is_allowed_length, text_fault, exact_fault, clean_fault, is_short, missing, pad_byte, pads_left, padded, field_into, written_size, longest};
 
 use field_table::Class;
+use refusal::Cause;
 
 // The greatest length of a content that a note can hold, in two bytes.
 pub const LONGEST: usize = 65535;
 
-// Why the exact writer refuses the content of field number: 12 or 8; 0 where it does not. The caller adds field and position.
-pub fn exact_fault(number: usize, content: &[u8], table: &[u16]) -> u8
+// Why the exact writer refuses the content of field number: 12 or 8. The caller adds field and position.
+#[tactic(auto, unfolding(crate::specs::Fields::exact_fault))]
+pub fn exact_fault(number: usize, content: &[u8], table: &[u16]) -> Result<(), Cause>
     ensures { result ≡ exact_fault (decoded table.now) number content.now }
 {
     if !is_allowed_length(number, content.len(), table) {
-        return refusal::LENGTH_NOT_ALLOWED;
+        return Err(Cause::LengthNotAllowed);
     }
     text_fault(field_table::class_in(table, number), content)
 }
 
 // The same of the cleaning writer, which pads a content that is too short.
-pub fn clean_fault(number: usize, content: &[u8], table: &[u16]) -> u8
+#[tactic(auto, unfolding(crate::specs::Fields::clean_fault))]
+pub fn clean_fault(number: usize, content: &[u8], table: &[u16]) -> Result<(), Cause>
     ensures { result ≡ clean_fault (decoded table.now) number content.now }
 {
     if field_table::most_in(table, number) < content.len() {
-        return refusal::LENGTH_NOT_ALLOWED;
+        return Err(Cause::LengthNotAllowed);
     }
     text_fault(field_table::class_in(table, number), content)
 }
@@ -76,17 +79,15 @@ pub fn put_field(number: usize, content: &[u8], table: &[u16], out: &mut [u8])
     put_counted(width, content, out);
 }
 
-// 8 where the content is text and has a byte that is not; else 0. 01: "text is any bytes up to 0x7F, binary is any bytes".
-fn text_fault(class: Class, content: &[u8]) -> u8
+// 8 where the content is text and has a byte that is not. 01: "text is any bytes up to 0x7F, binary is any bytes".
+#[tactic(auto, unfolding(crate::specs::Fields::text_fault))]
+fn text_fault(class: Class, content: &[u8]) -> Result<(), Cause>
     ensures { result ≡ text_fault class content.now }
 {
-    if field_table::is_binary(class) {
-        return 0;
+    if field_table::is_binary(class) || octets::all_between(content, 0, octets::LAST_ASCII) {
+        return Ok(());
     }
-    if octets::all_between(content, 0, octets::LAST_ASCII) {
-        return 0;
-    }
-    refusal::TEXT_NOT_ASCII
+    Err(Cause::TextNotAscii)
 }
 
 // By how many bytes a content of that length is too short for field number; a variable one never is.

@@ -4,6 +4,7 @@ use mathlib.Core.Path.{◌≡◌, refl, sym, ap, ◌∙◌}
 use mathlib.Core.List.{List, [], ◌∷◌, ◌++◌, append_assoc}
 use lib.ListN.{length}
 use Rattle.octets.specs.Numbers.{decimal}
+use Rattle.refusal.specs.Refusals.{good}
 use Rattle.field_table.specs.Table.{Table}
 use Rattle.field_write.specs.Fields.{exact_fault, clean_fault, cleaned, field_bytes}
 use Rattle.field_write.proofs.Allowed.{exact_not_short}
@@ -22,7 +23,7 @@ cleaned_numbers t [] = refl
 cleaned_numbers t (c ∷ cs) = ap (λ (l : List ℕ). c.number ∷ l) (cleaned_numbers t cs)
 
 -- a content that the exact writer takes is not changed
-pub exact_whole : (t : Table) (f : ℕ) (c : List ℕ) → exact_fault t f c ≡ 0 → cleaned t f c ≡ c
+pub exact_whole : (t : Table) (f : ℕ) (c : List ℕ) → exact_fault t f c ≡ good → cleaned t f c ≡ c
 exact_whole t f c e = not_short_whole t f c (exact_not_short t f c e)
 
 module _ (t : Table) (v : List ℕ) where
@@ -31,7 +32,7 @@ module _ (t : Table) (v : List ℕ) where
   body_none = refl
 
   -- one field more, whose content the cleaning writer takes
-  pub body_more : (f a z : ℕ) (es : List Entry) → clean_fault t f (content_of v a z) ≡ 0
+  pub body_more : (f a z : ℕ) (es : List Entry) → clean_fault t f (content_of v a z) ≡ good
       → spelt t (cleaned_in t (contents_in v (entry f a z ∷ es))) ≡ field_bytes t f (content_of v a z) ++ spelt t (cleaned_in t (contents_in v es))
   unfolding spelt cleaned_in contents_in
   body_more f a z es e =

@@ -9,6 +9,7 @@ use lib.ListN.{length, length-append}
 use Rattle.octets.specs.Lists.{all}
 use Rattle.octets.specs.Numbers.{is_digit, decimal}
 use Rattle.octets.proofs.Numbers.{digits_length}
+use Rattle.refusal.specs.Refusals.{good}
 use Rattle.field_table.specs.Table.{Table, Small}
 use Rattle.field_write.specs.Fields.{exact_fault}
 use Rattle.message_language.specs.Language.{Item, Entry, entry, Fields, none as no_fields_lem, more as more_fields, Message}
@@ -18,7 +19,7 @@ use Rattle.message_contents.proofs.Made.{Rising, end, next, ordered, all_fields,
 
 pub data Taken (t : Table) (m : ℕ) : ℕ → List Content → Type 0 where
   none : {last : ℕ} → Taken t m last []
-  more : {last f : ℕ} {c : List ℕ} {cs : List Content} → number_allowed m last f ≡ true → exact_fault t f c ≡ 0 → Taken t m f cs → Taken t m last (content f c ∷ cs)
+  more : {last f : ℕ} {c : List ℕ} {cs : List Content} → number_allowed m last f ≡ true → exact_fault t f c ≡ good → Taken t m f cs → Taken t m last (content f c ∷ cs)
 
 one_field : (t : Table) (at f w : ℕ) (fs ds c rest : List ℕ) (es : List Entry) → length ds ≡ w → Item t f ds c → Fields t (at + (w + length c)) fs rest es
     → Fields t at (f ∷ fs) (ds ++ (c ++ rest)) (entry f (at + w) (length c) ∷ es)

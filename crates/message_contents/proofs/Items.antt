@@ -10,6 +10,7 @@ use Rattle.octets.specs.Lists.{either, all}
 use Rattle.octets.specs.Numbers.{is_ascii, decimal}
 use Rattle.octets.proofs.Cases.{by_bool, by_eq}
 use Rattle.octets.proofs.Numbers.{digits_number, digits_length, digits_between}
+use Rattle.refusal.specs.Refusals.{good}
 use Rattle.field_table.specs.Table.{Table, is_binary, Small}
 use Rattle.field_write.specs.Fields.{exact_fault, field_bytes}
 use Rattle.field_write.proofs.Allowed.{exact_passed, exact_passes, exact_is_clean}
@@ -19,7 +20,7 @@ use Rattle.message_contents.specs.Contents.{content_of}
 
 -- The exact writer takes an item of the language, and writes its digits and its content.
 module _ (t : Table) (f : ℕ) (ds c : List ℕ) (i : Item t f ds c) where
-  pub item_exact : exact_fault t f c ≡ 0
+  pub item_exact : exact_fault t f c ≡ good
   item_exact =
       exact_passes t f c
       (record {
@@ -48,7 +49,7 @@ content_at pre ds c rest v at l e =
     rw d (take-append_seam c rest)
 
 -- And a content that it takes is an item, with the digits that it writes.
-pub item : (t : Table) → Small t → (f : ℕ) (c : List ℕ) → exact_fault t f c ≡ 0 → Item t f (decimal (t.width f) (length c)) c
+pub item : (t : Table) → Small t → (f : ℕ) (c : List ℕ) → exact_fault t f c ≡ good → Item t f (decimal (t.width f) (length c)) c
 item t small f c e =
     let x = exact_passed t f c e in
     record {
