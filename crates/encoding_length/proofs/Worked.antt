@@ -3,13 +3,14 @@ use mathlib.Core.Path.{◌≡◌, refl}
 use mathlib.Core.List.{[], ◌∷◌}
 use Rattle.octets.specs.Numbers.{digits, decimal}
 use Rattle.refusal.specs.Numbers.{length_needs_digits}
+use Rattle.refusal.specs.Refusals.{bad}
 use Rattle.encoding_bcd.specs.Bcd.{packed, evened, paired}
 use Rattle.encoding_ebcdic.specs.Ebcdic.{table, ebcdic_of}
 use Rattle.encoding_length.specs.Lengths.{is_width, spelt, encode_fault}
 use Rattle.encoding_length.specs.declared.Encoding.TheVariants.{Ascii, Bcd, Ebcdic}
 
 -- 01: "Writing 100 into two digits, as `encode_length` and the LL writer do": it is refused.
-pub hundred_in_two : encode_fault 2 100 ≡ length_needs_digits
+pub hundred_in_two : encode_fault 2 100 ≡ bad length_needs_digits
 unfolding encode_fault is_width
 hundred_in_two = refl
 

@@ -1,28 +1,32 @@
 -- Length indicators, over the digit count and the encoding.
 --
+--   numbered n            == the encoding with the number n, or 25 where there is none
 --   is_width w            == w is a digit count that an indicator may have
 --   size_of e w           == how many bytes w digits take in the encoding e
 --   spelt e t             == the ASCII digits t in the encoding e
 --   text_of e w s         == the w characters that the bytes s spell in the encoding e, in ASCII
---   encode_fault w n      == 01's number of the test that the length n fails for w digits, or 0
---   ascii_fault s         == 01's number of the test that s fails as ASCII text, or 0
---   alphabet_fault e w s  == 01's number of the test that s fails as text of the encoding e, or 0
---   decode_fault e w s    == 01's number of the first test that s fails as an indicator of w digits, or 0
---   told_length r         == what decoding's answer tells; its value is the length
+--   encode_fault w n      == what the test of the length n for w digits finds
+--   ascii_fault s         == what the test of s as ASCII text finds
+--   alphabet_fault e w s  == what the test of s as text of the encoding e finds
+--   decode_fault e w s    == what the tests of s as an indicator of w digits find, in their order
 --   measured e w s        == what decoding s answers: the number that its digits spell, or a refusal
 --
 -- Assumes nothing: these are definitions.
-use Rattle.std.specs.Prelude.{ℕ, ◌^◌, Bool, cond, List, [], ◌∷◌, map, length, eqb, ltb}
+use Rattle.std.specs.Prelude.{ℕ, ◌^◌, Bool, cond, List, map, length, eqb, ltb, Result, Ok, Err}
 use Rattle.octets.specs.Lists.{both, either, all}
 use Rattle.octets.specs.Numbers.{is_digit, is_ascii, decimal_of}
 use Rattle.refusal.specs.Numbers.{length_needs_digits, byte_count_wrong, no_ascii_meaning, length_not_digits}
-use Rattle.refusal.specs.Refusals.{plain, Told, tell}
+use Rattle.refusal.specs.Refusals.{plain, Test, good, bad}
+use Rattle.refusal.specs.declared.Cause.{Cause}
+use Rattle.refusal.specs.declared.Refusal.{Refusal}
 use Rattle.encoding_bcd.specs.Bcd.{bytes_of, packed, unpacked, decode_fault as bcd_fault}
 use Rattle.encoding_ebcdic.specs.Ebcdic.{ascii_of, ebcdic_of, decode_fault as ebcdic_fault}
 use Rattle.encoding_length.specs.declared.Encoding.{Encoding}
 use Rattle.encoding_length.specs.declared.Encoding.TheVariants.{Ascii, Bcd, Ebcdic}
-use Rattle.encoding_length.specs.declared.Measured.{Measured}
-use Rattle.encoding_length.specs.declared.Measured.TheVariants.{Length, Refused}
+
+-- 01 has no refusal for a wrong number
+abbrev pub numbered : ℕ → Result Encoding Cause
+numbered n = cond (eqb n 0) (Ok Ascii) (cond (eqb n 1) (Ok Bcd) (cond (eqb n 2) (Ok Ebcdic) (Err length_needs_digits)))
 
 -- 01: "have two or three digits"
 unfoldable pub is_width : ℕ → Bool
@@ -44,33 +48,27 @@ text_of Bcd w s = unpacked w s
 text_of Ebcdic w s = map ascii_of s
 
 -- 01: "length needs more digits than given, or these aren't 2 or 3"
-unfoldable pub encode_fault : ℕ → ℕ → ℕ
-encode_fault w n = cond (both (is_width w) (ltb n (10 ^ w))) 0 length_needs_digits
+unfoldable pub encode_fault : ℕ → ℕ → Test
+encode_fault w n = cond (both (is_width w) (ltb n (10 ^ w))) good (bad length_needs_digits)
 
 -- 01: "byte has no ASCII meaning"
-unfoldable pub ascii_fault : List ℕ → ℕ
-ascii_fault s = cond (all is_ascii s) 0 no_ascii_meaning
+unfoldable pub ascii_fault : List ℕ → Test
+ascii_fault s = cond (all is_ascii s) good (bad no_ascii_meaning)
 
 -- 01: "then BCD 22 or text 24"
-unfoldable pub alphabet_fault : Encoding → ℕ → List ℕ → ℕ
+unfoldable pub alphabet_fault : Encoding → ℕ → List ℕ → Test
 alphabet_fault Ascii w s = ascii_fault s
 alphabet_fault Bcd w s = bcd_fault w s
 alphabet_fault Ebcdic w s = ebcdic_fault s
 
 -- 01: "Decoding order: 25, 23, then BCD 22 or text 24, then 6."
-unfoldable pub decode_fault : Encoding → ℕ → List ℕ → ℕ
+unfoldable pub decode_fault : Encoding → ℕ → List ℕ → Test
 decode_fault e w s =
     cond (is_width w)
     (cond (eqb (length s) (size_of e w))
-    (cond (eqb (alphabet_fault e w s) 0) (cond (all is_digit (text_of e w s)) 0 length_not_digits) (alphabet_fault e w s))
-    byte_count_wrong)
-    length_needs_digits
+    (elim (alphabet_fault e w s) [ Ok x ↦ cond (all is_digit (text_of e w s)) good (bad length_not_digits) | Err c ↦ bad c ])
+    (bad byte_count_wrong))
+    (bad length_needs_digits)
 
--- 01: "a length or count in a refusal is 0"
-abbrev pub told_length : Measured → Told
-told_length (Length n) = tell (plain 0) (n ∷ [])
-told_length (Refused r) = tell r (0 ∷ [])
-
-unfoldable pub measured : Encoding → ℕ → List ℕ → Measured
-measured e w s =
-    cond (eqb (decode_fault e w s) 0) (Length (decimal_of (text_of e w s))) (Refused (plain (decode_fault e w s)))
+unfoldable pub measured : Encoding → ℕ → List ℕ → Result ℕ Refusal
+measured e w s = elim (decode_fault e w s) [ Ok x ↦ Ok (decimal_of (text_of e w s)) | Err c ↦ Err (plain c) ]

@@ -1,14 +1,20 @@
 -- A conversion has three ends: the source fails, the output is too short, or the bytes are written.
-use Rattle.refusal.proofs.Conversions.{refused_answer, refused_output, short_answer, short_output, done_answer, done_output}
+use mathlib.Core.Path.{refl}
+use Rattle.refusal.proofs.Conversions.{source_refused, room_refused, done}
 use Rattle.encoding_length.proofs.Texts.{copied}
-use borrow.Author.Rules.{rules}
 use Rattle.encoding_length.proofs.copy.Goals as goal
 
-pub returns-then-fault-ne0 : goal.returns-then-fault-ne0
-returns-then-fault-ne0 c = search (refused_answer, refused_output, rules)
+pub returns-in_err-ascii_fault : goal.returns-in_err-ascii_fault
+returns-in_err-ascii_fault c =
+    let r = source_refused c.in_err-ascii_fault.ensures c.from_residual.ensures.1 in
+    record { answers = r.answers; writes = r.writes }
 
-pub returns-then-out-src : goal.returns-then-out-src
-returns-then-out-src c = search (short_answer, short_output, rules)
+pub returns-in_err-check_room : goal.returns-in_err-check_room
+returns-in_err-check_room c =
+    let r = room_refused c.in_ok-ascii_fault.ensures refl c.in_err-check_room.ensures c.from_residual-in_err-check_room.ensures.1 in
+    record { answers = r.answers; writes = r.writes }
 
 pub returns : goal.returns
-returns c = search (done_answer, done_output, copied, rules)
+returns c =
+    let r = done c.in_ok-ascii_fault.ensures refl c.in_ok-check_room.ensures (copied _ _ _ c.put.ensures c.in_ok-check_room.ensures) in
+    record { answers = r.answers; writes = r.writes }
