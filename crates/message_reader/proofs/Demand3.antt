@@ -6,11 +6,11 @@ use native.Mathlib.Omega.{arith}
 use lib.ListN.{length, take, drop, take-append-drop}
 use lib.Seq.{take_at}
 use borrow.Author.Tests.{lt-ltb, le-ltb}
+use Rattle.std.specs.Prelude.{Ok}
 use Rattle.octets.specs.Lists.{lay}
 use Rattle.octets.proofs.Cases.{by_lt}
 use Rattle.refusal.specs.Numbers.{notes_too_short}
 use Rattle.refusal.specs.Refusals.{plain}
-use Rattle.refusal.specs.declared.Refusal.{Refusal}
 use Rattle.field_table.specs.House.{house}
 use Rattle.message_language.specs.Language.{Reading, Begins}
 use Rattle.message_notes.specs.Dialect.{Form, Dialect, dialect, notes_room, Sound}
@@ -18,15 +18,11 @@ use Rattle.message_notes.specs.Notes.{head_note, field_notes, end_note, notes_of
 use Rattle.message_notes.proofs.Sound.{house_sound}
 use Rattle.message_notes.proofs.Spelling.{entry_at_lem}
 use Rattle.message_notes.proofs.Apart.{notes_apart}
-use Rattle.message_reader.specs.declared.ReadAnswer.{ReadAnswer}
-use Rattle.message_reader.specs.declared.ReadAnswer.TheVariants.{Accepted, Refused}
-use Rattle.message_reader.specs.Reader.{read_message, read_answer, reading_with, notes_after}
+use Rattle.message_reader.proofs.Results.{never}
+use Rattle.message_reader.specs.Reader.{acceptance, read_message, read_answer, reading_with, notes_after}
 use Rattle.message_reader.specs.Demand3.{Reads, HouseReads}
 use Rattle.message_reader.proofs.Language.{accepts, accepted, reading_is, one_length, one_message, one_reading}
 use Rattle.message_reader.proofs.Small.{entries_fit, used_small, room_enough}
-
-never : (o : ReadAnswer) (r : Refusal) (u k : ℕ) → o ≡ Refused r → o ≡ Accepted u k → ⊥
-never o r u k p q = let z : ◌≡◌ {A = ℕ} 0 1 = cc in omega arith
 
 module _ (d : Dialect) (s b : List ℕ) where
   enough : notes_room d ≤ length b → read_answer d s b ≡ read_message d.table d.most s
@@ -34,18 +30,18 @@ module _ (d : Dialect) (s b : List ℕ) where
   enough h = rw (le-ltb (length b) (notes_room d) h)
 
   -- what is accepted had room
-  pub had_room : (u k : ℕ) → read_answer d s b ≡ Accepted u k → notes_room d ≤ length b
+  pub had_room : (u k : ℕ) → read_answer d s b ≡ Ok (acceptance u k) → notes_room d ≤ length b
   unfolding read_answer
   had_room u k e =
       by_lt (length b) (notes_room d)
-      (λ h. absurd (never _ (plain notes_too_short) u k (rw (lt-ltb (length b) (notes_room d) h)) e))
+      (λ h. never (plain notes_too_short) (rw (lt-ltb (length b) (notes_room d) h)) e)
       (λ h. h)
 
-  accepted_notes : (u k : ℕ) → read_answer d s b ≡ Accepted u k → notes_after d s b ≡ lay (notes_of d.form (reading_with d.table s k) u) b
+  accepted_notes : (u k : ℕ) → read_answer d s b ≡ Ok (acceptance u k) → notes_after d s b ≡ lay (notes_of d.form (reading_with d.table s k) u) b
   unfolding notes_after
   accepted_notes u k e = rw (notes_after, e)
 
-  all_messages : (u : ℕ) (r : Reading) → notes_room d ≤ length b → Begins d.table d.most s u r → read_answer d s b ≡ Accepted u r.count
+  all_messages : (u : ℕ) (r : Reading) → notes_room d ≤ length b → Begins d.table d.most s u r → read_answer d s b ≡ Ok (acceptance u r.count)
   all_messages u r h x = enough h ∙ accepted d s u r x
 
   notes_are : (u : ℕ) (r : Reading) → notes_room d ≤ length b → Begins d.table d.most s u r → notes_after d s b ≡ lay (notes_of d.form r u) b
@@ -53,11 +49,11 @@ module _ (d : Dialect) (s b : List ℕ) where
       accepted_notes u r.count (all_messages u r h x) ∙ ap (λ (q : Reading). lay (notes_of d.form q u) b) (reading_is d s u r x)
 
 module _ (d : Dialect) (sound : Sound d) where
-  only_messages : (s b : List ℕ) (u k : ℕ) → read_answer d s b ≡ Accepted u k → Begins d.table d.most s u (reading_with d.table s k)
+  only_messages : (s b : List ℕ) (u k : ℕ) → read_answer d s b ≡ Ok (acceptance u k) → Begins d.table d.most s u (reading_with d.table s k)
   only_messages s b u k e = accepts d sound s u k (sym (enough d s b (had_room d s b u k e)) ∙ e)
 
-  only_used : (s q b : List ℕ) (u k : ℕ) → read_answer d s b ≡ Accepted u k → take u q ≡ take u s
-      → (read_answer d q b ≡ Accepted u k) × (notes_after d q b ≡ notes_after d s b)
+  only_used : (s q b : List ℕ) (u k : ℕ) → read_answer d s b ≡ Ok (acceptance u k) → take u q ≡ take u s
+      → (read_answer d q b ≡ Ok (acceptance u k)) × (notes_after d q b ≡ notes_after d s b)
   unfolding reading_with
   only_used s q b u k e same =
       let h = had_room d s b u k e in

@@ -6,63 +6,50 @@ use mathlib.Core.List.{List, ◌++◌, append_assoc}
 use native.Mathlib.Omega.{arith}
 use lib.ListN.{length, take, drop, length-append, length-drop, take-append-drop}
 use lib.Seq.{length-take-le, take_at, drop_at, drop-drop}
+use Rattle.std.specs.Prelude.{Result, Ok, Err}
 use Rattle.refusal.specs.declared.Refusal.{Refusal}
 use Rattle.bitmap.specs.Bitmaps.{fields_of}
-use Rattle.bitmap_read.specs.declared.BitmapsRead.{BitmapsRead}
-use Rattle.bitmap_read.specs.declared.BitmapsRead.TheVariants.{Count, Refused as HeadRefused}
 use Rattle.bitmap_read.specs.Found.{maps_of}
 use Rattle.field_table.specs.Table.{Table}
 use Rattle.message_language.specs.Language.{Reading, Message, Begins}
 use Rattle.message_notes.specs.Dialect.{Dialect, Sound}
-use Rattle.message_reader.specs.declared.FieldsRead.{FieldsRead}
-use Rattle.message_reader.specs.declared.FieldsRead.TheVariants.{Used, Refused as FieldsRefused}
-use Rattle.message_reader.specs.declared.ReadAnswer.{ReadAnswer}
-use Rattle.message_reader.specs.declared.ReadAnswer.TheVariants.{Accepted, Refused}
-use Rattle.message_reader.specs.Reader.{head_read, entries_of, read_body, read_message, reading_with}
+use Rattle.message_reader.specs.declared.Accepted.{Accepted}
+use Rattle.message_reader.proofs.Results.{by_result, never, same_ok}
+use Rattle.message_reader.specs.Reader.{acceptance, head_read, entries_of, read_body, read_message, reading_with}
 use Rattle.message_reader.proofs.Heads.{Headed, head_found, head_reads}
 use Rattle.message_reader.proofs.Fields.{taken, Given, given}
 
 -- the answer, by its two parts
-pub message_head_refused : (t : Table) (m : ℕ) (s : List ℕ) (r : Refusal) → head_read m s ≡ HeadRefused r → read_message t m s ≡ Refused r
+pub message_head_refused : (t : Table) (m : ℕ) (s : List ℕ) (r : Refusal) → head_read m s ≡ Err r → read_message t m s ≡ Err r
 unfolding read_message
 message_head_refused t m s r e = rw (read_message, e)
 
-module _ (t : Table) (m : ℕ) (s : List ℕ) (k : ℕ) (head : head_read m s ≡ Count k) where
-  pub message_refused : (r : Refusal) → read_body t s k ≡ FieldsRefused r → read_message t m s ≡ Refused r
+module _ (t : Table) (m : ℕ) (s : List ℕ) (k : ℕ) (head : head_read m s ≡ Ok k) where
+  pub message_refused : (r : Refusal) → read_body t s k ≡ Err r → read_message t m s ≡ Err r
   unfolding read_message
   message_refused r e = rw (read_message, head, e)
 
-  pub message_read : (u : ℕ) → read_body t s k ≡ Used u → read_message t m s ≡ Accepted u k
+  pub message_read : (u : ℕ) → read_body t s k ≡ Ok u → read_message t m s ≡ Ok (acceptance u k)
   unfolding read_message
   message_read u e = rw (read_message, head, e)
 
 -- what an acceptance says of the parts
 pub record Parts (t : Table) (m : ℕ) (s : List ℕ) (u k : ℕ) : Type 0 where
-  pub head : head_read m s ≡ Count k
-  pub body : read_body t s k ≡ Used u
+  pub head : head_read m s ≡ Ok k
+  pub body : read_body t s k ≡ Ok u
 
-never : (o : ReadAnswer) (r : Refusal) (u k : ℕ) → o ≡ Refused r → o ≡ Accepted u k → ⊥
-never o r u k p q = let z : ◌≡◌ {A = ℕ} 0 1 = cc in omega arith
+same_acceptance : {u k v l : ℕ} → ◌≡◌ {A = Result Accepted Refusal} (Ok (acceptance v l)) (Ok (acceptance u k)) → (v ≡ u) × (l ≡ k)
+same_acceptance e = (ap (λ (x : Accepted). x.used) (same_ok e), ap (λ (x : Accepted). x.bitmaps) (same_ok e))
 
-by_head : {P : Type 0} (o : BitmapsRead) → ((r : Refusal) → o ≡ HeadRefused r → P) → ((k : ℕ) → o ≡ Count k → P) → P
-by_head (HeadRefused r) x y = x r refl
-by_head (Count k) x y = y k refl
-
-by_fields : {P : Type 0} (o : FieldsRead) → ((r : Refusal) → o ≡ FieldsRefused r → P) → ((u : ℕ) → o ≡ Used u → P) → P
-by_fields (FieldsRefused r) x y = x r refl
-by_fields (Used u) x y = y u refl
-
-pub parts_of : (t : Table) (m : ℕ) (s : List ℕ) (u k : ℕ) → read_message t m s ≡ Accepted u k → Parts t m s u k
+pub parts_of : (t : Table) (m : ℕ) (s : List ℕ) (u k : ℕ) → read_message t m s ≡ Ok (acceptance u k) → Parts t m s u k
 parts_of t m s u k e =
-    by_head (head_read m s)
-    (λ r h. absurd (never _ r u k (message_head_refused t m s r h) e))
-    (λ l h. by_fields (read_body t s l)
-    (λ r b. absurd (never _ r u k (message_refused t m s l h r b) e))
+    by_result (head_read m s)
+    (λ r h. never r (message_head_refused t m s r h) e)
+    (λ l h. by_result (read_body t s l)
+    (λ r b. never r (message_refused t m s l h r b) e)
     (λ v b.
-    let a : Accepted v l ≡ Accepted u k = sym (message_read t m s l h v b) ∙ e in
-    let i : l ≡ k = cc in
-    let j : v ≡ u = cc in
-    record { head = h ∙ ap Count i; body = rw (← i) (b ∙ ap Used j) }))
+    let same = same_acceptance (sym (message_read t m s l h v b) ∙ e) in
+    record { head = h ∙ ap Ok same.1; body = rw (← same.1) (b ∙ ap Ok same.0) }))
 
 -- the head's bytes, and what follows
 module _ (s : List ℕ) (k : ℕ) (long : 4 + 8 * k ≤ length s) where
@@ -81,7 +68,7 @@ module _ (s : List ℕ) (k : ℕ) (long : 4 + 8 * k ≤ length s) where
   head_parts = sym (rw (← drop-drop (8 * k) 4 s, take-append-drop (8 * k) (drop 4 s)) (take-append-drop 4 s))
 
 -- Sound: an accepted input begins with a message that has the reading that the notes spell.
-pub accepts : (d : Dialect) → Sound d → (s : List ℕ) (u k : ℕ) → read_message d.table d.most s ≡ Accepted u k
+pub accepts : (d : Dialect) → Sound d → (s : List ℕ) (u k : ℕ) → read_message d.table d.most s ≡ Ok (acceptance u k)
     → Begins d.table d.most s u (reading_with d.table s k)
 unfolding read_body reading_with
 accepts d sound s u k e =
@@ -160,11 +147,11 @@ module _ (d : Dialect) (s : List ℕ) (u : ℕ) (r : Reading) (b : Begins d.tabl
   used_is : 4 + 8 * r.count + length M.body ≡ u
   used_is = omega (arith, message_long, b.long)
 
-  pub accepted : read_message d.table d.most s ≡ Accepted u r.count
+  pub accepted : read_message d.table d.most s ≡ Ok (acceptance u r.count)
   unfolding read_body
   accepted =
       message_read d.table d.most s r.count (head_reads d.most s r.count headed) u
-      (rw (maps_are, rest_is) (is_given.answer ∙ ap Used used_is))
+      (rw (maps_are, rest_is) (is_given.answer ∙ ap Ok used_is))
 
   entries_are : entries_of d.table (4 + 8 * r.count) (fields_of (maps_of 4 s r.count) r.count) (drop (4 + 8 * r.count) s) ≡ r.entries
   entries_are = rw (maps_are, rest_is) is_given.entries
@@ -175,14 +162,14 @@ module _ (d : Dialect) (s : List ℕ) (u : ℕ) (r : Reading) (b : Begins d.tabl
 
 -- Unique: one message of the language begins an input, and it has one reading.
 module _ (d : Dialect) (s : List ℕ) (u u' : ℕ) (r r' : Reading) (b : Begins d.table d.most s u r) (b' : Begins d.table d.most s u' r') where
-  both_accepted : Accepted u r.count ≡ Accepted u' r'.count
-  both_accepted = sym (accepted d s u r b) ∙ accepted d s u' r' b'
+  both_accepted : (u ≡ u') × (r.count ≡ r'.count)
+  both_accepted = same_acceptance (sym (accepted d s u r b) ∙ accepted d s u' r' b')
 
   pub one_length : u ≡ u'
-  one_length = let e = both_accepted in cc
+  one_length = both_accepted.0
 
   one_count : r.count ≡ r'.count
-  one_count = let e = both_accepted in cc
+  one_count = both_accepted.1
 
   pub one_reading : r ≡ r'
   one_reading = sym (reading_is d s u r b) ∙ rw one_count (reading_is d s u' r' b')

@@ -1,3 +1,4 @@
+pub mod Results
 pub mod Answers
 pub mod Binary
 pub mod Demand3

@@ -7,13 +7,12 @@ use native.Mathlib.Omega.{arith}
 use lib.ListN.{length, take, drop, get_or, length-take, length-drop, drop_of_length-le}
 use lib.Seq.{drop-drop, take-append_seam}
 use borrow.Rule.Slice.PartMut.{mid_of, put_mid}
+use Rattle.std.specs.Prelude.{Result, Ok, Err}
 use Rattle.octets.specs.Lists.{lay, placed}
 use Rattle.octets.proofs.Lists.{lay_length}
 use Rattle.octets.proofs.Parts.{to_end, Written, written_none, written_more, written_end}
 use Rattle.field_table.specs.Table.{Table}
-use Rattle.field_read.specs.Items.{read_field, place_field}
-use Rattle.field_read.specs.declared.FieldRead.{FieldRead}
-use Rattle.field_read.specs.declared.FieldRead.TheVariants.{Content, Refused as FieldRefused}
+use Rattle.field_read.specs.Items.{content_at, read_field, place_field}
 use Rattle.bitmap.specs.Bitmaps.{fields_of}
 use Rattle.bitmap.proofs.Fields.{fields_few, fields_in_lem}
 use Rattle.bitmap_read.specs.Found.{maps_of}
@@ -21,7 +20,8 @@ use Rattle.message_language.specs.Language.{Entry}
 use Rattle.message_notes.specs.Dialect.{Form, note_size, Dialect, dialect, plain_form}
 use Rattle.message_notes.specs.Notes.{field_note, field_notes}
 use Rattle.message_notes.proofs.Sizes.{field_long, fields_long}
-use Rattle.message_reader.specs.declared.FieldsRead.TheVariants.{Used}
+use Rattle.refusal.specs.declared.Cause.{Cause}
+use Rattle.field_read.specs.declared.Content.{Content}
 use Rattle.message_reader.specs.Reader.{read_fields, entry_found, entries_of, read_body, reading_with}
 use Rattle.message_reader.proofs.Turns.{Met, met}
 use Rattle.message_reader.proofs.Fields.{fields_read, first_placed, entries_refused, entries_read, entries_most, read_within}
@@ -36,9 +36,9 @@ pub record Noted (F : Form) (t : Table) (s fs : List ℕ) (start : ℕ) (d o : L
   pub written : Written (coming F t s start fs) d o (coming F t s at (drop i fs)) w
   pub room : w + note_size F * length (drop i fs) ≤ length d
   pub used : ℕ
-  pub accepted : read_fields t at (drop i fs) (drop at s) ≡ Used used
+  pub accepted : read_fields t at (drop i fs) (drop at s) ≡ Ok used
 
-pub noted_first : {F : Form} {t : Table} {s fs : List ℕ} {start u : ℕ} {d : List ℕ} → start ≤ length s → note_size F * length fs ≤ length d → read_fields t start fs (drop start s) ≡ Used u → Noted F t s fs start d d start 0 0
+pub noted_first : {F : Form} {t : Table} {s fs : List ℕ} {start u : ℕ} {d : List ℕ} → start ≤ length s → note_size F * length fs ≤ length d → read_fields t start fs (drop start s) ≡ Ok u → Noted F t s fs start d d start 0 0
 noted_first {F} {t} {s} {fs} {start} {u} {d} k r good =
     record { inside = k; used = u; accepted = good; written = written_none (coming F t s start fs) d; room = omega (arith, r) }
 
@@ -53,14 +53,14 @@ module _ {F : Form} {t : Table} {s fs : List ℕ} {start : ℕ} {d o : List ℕ}
   noted_end h = noted_done (rw (drop_of_length-le fs h))
 
   -- a field is met: its content's place, as the code finds it
-  pub noted_met : {f : ℕ} {x : FieldRead} → i < length fs → f ≡ get_or fs i 0 → x ≡ place_field t f (take (length s - at) (drop at s)) → Met t s fs at i f x
+  pub noted_met : {f : ℕ} {x : Result Content Cause} → i < length fs → f ≡ get_or fs i 0 → x ≡ place_field t f (take (length s - at) (drop at s)) → Met t s fs at i f x
   noted_met {f} low e r =
       let k = met t s fs at i f (read_field t f (take (length s - at) (drop at s))) low e refl in
-      let all : read_fields t at (f ∷ drop (i + 1) fs) (take (length s - at) (drop at s)) ≡ Used c.used = rw (to_end at s, ← k.here) c.accepted in
+      let all : read_fields t at (f ∷ drop (i + 1) fs) (take (length s - at) (drop at s)) ≡ Ok c.used = rw (to_end at s, ← k.here) c.accepted in
       met t s fs at i f _ low e (r ∙ first_placed t at f (drop (i + 1) fs) (take (length s - at) (drop at s)) c.used all)
 
-  module _ {f : ℕ} {x : FieldRead} (k : Met t s fs at i f x) where
-    pub noted_refused : {n : ℕ} → x ≡ FieldRefused n → (w ≡ length (coming F t s start fs)) × (o ≡ lay (coming F t s start fs) d)
+  module _ {f : ℕ} {x : Result Content Cause} (k : Met t s fs at i f x) where
+    pub noted_refused : {n : Cause} → x ≡ Err n → (w ≡ length (coming F t s start fs)) × (o ≡ lay (coming F t s start fs) d)
     noted_refused is = noted_done (rw k.here (entries_refused t at f (drop (i + 1) fs) (drop at s) _ (sym k.gives ∙ is)))
 
     -- one note less is still to come
@@ -70,7 +70,7 @@ module _ {F : Form} {t : Table} {s fs : List ℕ} {start : ℕ} {d o : List ℕ}
     pub noted_room : w + note_size F ≤ length o
     noted_room = omega (arith, c.room, left, c.written.size)
 
-    module _ {a n : ℕ} (is : x ≡ Content a n) where
+    module _ {a n : ℕ} (is : x ≡ Ok (content_at a n)) where
       pub noted_within : at + (a + n) ≤ length s
       noted_within = omega (arith, read_within t f (drop at s) a n (sym k.gives ∙ is), length-drop at s, c.inside)
 

@@ -7,7 +7,7 @@
 --   HouseReads   == it of the desk's dialect by the house table, and its room in bytes
 --
 -- Assumes nothing: these are statements.
-use Rattle.std.specs.Prelude.{ℕ, ◌≤◌, ◌≡◌, List, length, take}
+use Rattle.std.specs.Prelude.{ℕ, ◌≤◌, ◌≡◌, List, length, take, Ok}
 use Rattle.std.proofs.Math.Option.{some}
 use Rattle.std.proofs.Math.ListN.{get_elem?}
 use Rattle.octets.specs.Lists.{lay}
@@ -15,16 +15,15 @@ use Rattle.field_table.specs.House.{house}
 use Rattle.message_language.specs.Language.{Entry, Reading, Begins}
 use Rattle.message_notes.specs.Dialect.{Dialect, dialect, notes_room}
 use Rattle.message_notes.specs.Notes.{notes_of, entry_at}
-use Rattle.message_reader.specs.declared.ReadAnswer.TheVariants.{Accepted}
-use Rattle.message_reader.specs.Reader.{read_answer, reading_with, notes_after}
+use Rattle.message_reader.specs.Reader.{acceptance, read_answer, reading_with, notes_after}
 
 pub record Reads (d : Dialect) : Type 0 where
   -- An input that is accepted begins with a message, of the length that is answered and with the reading that is noted.
   -- Shuts out a reader that answers case 1 always, and one that takes a length, a text byte or a bitmap that 01 does not allow.
-  pub only_messages : (s b : List ℕ) (u k : ℕ) → read_answer d s b ≡ Accepted u k → Begins d.table d.most s u (reading_with d.table s k)
+  pub only_messages : (s b : List ℕ) (u k : ℕ) → read_answer d s b ≡ Ok (acceptance u k) → Begins d.table d.most s u (reading_with d.table s k)
   -- Given room for its notes, an input that begins with a message is accepted, with that message's length and bitmaps.
   -- Shuts out a reader that refuses all, or that refuses anything which 01 allows.
-  pub all_messages : (s b : List ℕ) (u : ℕ) (r : Reading) → notes_room d ≤ length b → Begins d.table d.most s u r → read_answer d s b ≡ Accepted u r.count
+  pub all_messages : (s b : List ℕ) (u : ℕ) (r : Reading) → notes_room d ≤ length b → Begins d.table d.most s u r → read_answer d s b ≡ Ok (acceptance u r.count)
   -- Only one message begins an input, and it has one reading.
   pub one_length : (s : List ℕ) (u v : ℕ) (r q : Reading) → Begins d.table d.most s u r → Begins d.table d.most s v q → u ≡ v
   pub one_message : (s : List ℕ) (u v : ℕ) (r q : Reading) (x : Begins d.table d.most s u r) (y : Begins d.table d.most s v q) → x.message ≡ y.message
@@ -50,9 +49,9 @@ pub record Reads (d : Dialect) : Type 0 where
   -- Reading looks at nothing past the bytes used: an input that agrees on them has the same answer and notes.
   pub only_used :
       (s q b : List ℕ) (u k : ℕ) →
-      read_answer d s b ≡ Accepted u k →
+      read_answer d s b ≡ Ok (acceptance u k) →
       take u q ≡ take u s →
-      (read_answer d q b ≡ Accepted u k) × (notes_after d q b ≡ notes_after d s b)
+      (read_answer d q b ≡ Ok (acceptance u k)) × (notes_after d q b ≡ notes_after d s b)
 
 pub record HouseReads : Type 0 where
   pub reads : Reads (dialect house)

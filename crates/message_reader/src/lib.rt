@@ -11,58 +11,45 @@ ghost use Rattle.message_notes.specs.Dialect.{plain_form, note_size, dialect, no
 ghost use Rattle.message_notes.specs.Notes.{notes_of, field_notes};
 ghost use Rattle.message_reader.specs.Reader.{told_read, head_read, read_fields, entries_of, read_body, reading_with, read_answer, notes_after};
 
-use bitmap_read::BitmapsRead;
-use field_read::FieldRead;
-use refusal::Refusal;
+use refusal::{Cause, Refusal};
 
-// The bytes used and the count of bitmaps, or the refusal.
+// The bytes used and the count of bitmaps.
 #[derive(Clone, Copy)]
-pub enum ReadAnswer {
-    Accepted { used: usize, bitmaps: usize },
-    Refused(Refusal),
-}
-
-// The place after the last field, or the refusal.
-#[derive(Clone, Copy)]
-enum FieldsRead {
-    Used(usize),
-    Refused(Refusal),
+pub struct Accepted {
+    pub used: usize,
+    pub bitmaps: usize,
 }
 
 // Reads the message at the front of an input, and writes its notes to the front of notes. A refusal leaves notes as they were.
-pub fn read(message: &[u8], notes: &mut [u8]) -> ReadAnswer
+pub fn read(message: &[u8], notes: &mut [u8]) -> Result<Accepted, Refusal>
     ensures answers { result ≡ read_answer (dialect house) message.now notes.old }
     ensures writes { notes.new ≡ notes_after (dialect house) message.now notes.old }
     ensures tells { told_read result ≡ told_read (read_answer (dialect house) message.now notes.old) }
 {
     if notes.len() < message_notes::NOTES_ROOM {
-        return ReadAnswer::Refused(Refusal {
-            number: refusal::NOTES_TOO_SHORT,
-            field: 0,
-            position: 0,
-        });
+        return Err(Cause::NotesTooShort.at(0, 0));
     }
-    match read_head(message) {
-        BitmapsRead::Refused(refusal) => ReadAnswer::Refused(refusal),
-        BitmapsRead::Count(bitmaps) => {
-            let table = field_table::house_table();
-            read_by(message, bitmaps, &table, notes)
-        }
-    }
+    let bitmaps = read_head(message)?;
+    let table = field_table::house_table();
+    read_by(message, bitmaps, &table, notes)
 }
 
 // Reads the fields of a message with a good head by the table lent, and writes its notes: lists the fields that its bitmaps name.
-fn read_by(message: &[u8], bitmaps: usize, table: &[u16], notes: &mut [u8]) -> ReadAnswer
-    requires headed { head_read (dialect (decoded table.now)).most message.now ≡ BitmapsRead.Count bitmaps }
+fn read_by(
+    message: &[u8],
+    bitmaps: usize,
+    table: &[u16],
+    notes: &mut [u8],
+) -> Result<Accepted, Refusal>
+    requires headed { head_read (dialect (decoded table.now)).most message.now ≡ Ok bitmaps }
     requires room { notes_room (dialect (decoded table.now)) ≤ length notes.old }
     ensures answers { result ≡ read_answer (dialect (decoded table.now)) message.now notes.old }
     ensures writes { notes.new ≡ notes_after (dialect (decoded table.now)) message.now notes.old }
 {
     let start = 4 + 8 * bitmaps;
     let list = bitmap::list_fields(&message[4..start]);
-    let count = list.count;
     let numbers = list.numbers;
-    read_listed(message, bitmaps, &numbers[..count], table, notes)
+    read_listed(message, bitmaps, &numbers[..list.count], table, notes)
 }
 
 // The same, with the numbers of the fields in hand.
@@ -72,68 +59,46 @@ fn read_listed(
     fields: &[u8],
     table: &[u16],
     notes: &mut [u8],
-) -> ReadAnswer
-    requires headed { head_read (dialect (decoded table.now)).most message.now ≡ BitmapsRead.Count bitmaps }
+) -> Result<Accepted, Refusal>
+    requires headed { head_read (dialect (decoded table.now)).most message.now ≡ Ok bitmaps }
     requires listed { fields.now ≡ fields_of (maps_of 4 message.now bitmaps) bitmaps }
     requires room { notes_room (dialect (decoded table.now)) ≤ length notes.old }
     ensures answers { result ≡ read_answer (dialect (decoded table.now)) message.now notes.old }
     ensures writes { notes.new ≡ notes_after (dialect (decoded table.now)) message.now notes.old }
 {
-    match read_fields(message, 4 + 8 * bitmaps, fields, table) {
-        FieldsRead::Refused(refusal) => ReadAnswer::Refused(refusal),
-        FieldsRead::Used(used) => {
-            write_notes(message, bitmaps, used, fields, table, notes);
-            ReadAnswer::Accepted { used, bitmaps }
-        }
-    }
+    let used = read_fields(message, 4 + 8 * bitmaps, fields, table)?;
+    write_notes(message, bitmaps, used, fields, table, notes);
+    Ok(Accepted { used, bitmaps })
 }
 
 // Reads the MTI and finds how many bitmaps there are.
-fn read_head(message: &[u8]) -> BitmapsRead
+fn read_head(message: &[u8]) -> Result<usize, Refusal>
     ensures { result ≡ head_read (dialect house).most message.now }
 {
     if message.len() < 12 {
-        return BitmapsRead::Refused(Refusal {
-            number: refusal::MESSAGE_TOO_SHORT,
-            field: 0,
-            position: 0,
-        });
+        return Err(Cause::MessageTooShort.at(0, 0));
     }
     let digits = octets::lead_between(&message[..4], b'0', b'9');
     if digits < 4 {
-        return BitmapsRead::Refused(Refusal {
-            number: refusal::MTI_NOT_DIGITS,
-            field: 0,
-            position: digits,
-        });
+        return Err(Cause::MtiNotDigits.at(0, digits));
     }
     bitmap_read::read_bitmaps(message, 4)
 }
 
 // Reads the fields one after the other, the first at start, each from the rest of the message. Nothing is written.
-fn read_fields(message: &[u8], start: usize, fields: &[u8], table: &[u16]) -> FieldsRead
+fn read_fields(message: &[u8], start: usize, fields: &[u8], table: &[u16]) -> Result<usize, Refusal>
     requires { start ≤ length message.now }
     ensures { result ≡ read_fields (decoded table.now) start fields.now (drop start message.now) }
 {
     let mut at = start;
-    let mut i: usize = 0;
-    while i < fields.len() {
-        let field = octets::wide(fields[i]);
+    for field in fields {
+        let field = usize::from(*field);
         match field_read::read_field(&message[at..], field, table) {
-            FieldRead::Refused(number) => {
-                return FieldsRead::Refused(Refusal {
-                    number,
-                    field,
-                    position: at,
-                });
-            }
-            FieldRead::Content { start, length } => {
-                at = at + (start + length);
-                i += 1;
-            }
+            Err(cause) => return Err(cause.at(field, at)),
+            Ok(content) => at += content.start + content.length,
         }
     }
-    FieldsRead::Used(at)
+    Ok(at)
 }
 
 // Writes the notes of a message that is known to be good.
@@ -149,7 +114,7 @@ fn write_notes(
     requires whole { 4 + 8 * bitmaps ≤ length message.now }
     requires listed { fields.now ≡ fields_of (maps_of 4 message.now bitmaps) bitmaps }
     requires room { notes_room (dialect (decoded table.now)) ≤ length notes.old }
-    requires read { read_body (decoded table.now) message.now bitmaps ≡ FieldsRead.Used used }
+    requires read { read_body (decoded table.now) message.now bitmaps ≡ Ok used }
     ensures { notes.new ≡ lay (notes_of plain_form (reading_with (decoded table.now) message.now bitmaps) used) notes.old }
 {
     message_notes::put_head(&message[..4], bitmaps, notes);
@@ -175,26 +140,25 @@ fn write_fields(
 ) -> usize
     requires start_in_bounds { start ≤ length message.now }
     requires room { note_size plain_form * length fields.now ≤ length notes.old }
-    requires read { (u : ℕ) × (read_fields (decoded table.now) start fields.now (drop start message.now) ≡ FieldsRead.Used u) }
+    requires read { (u : ℕ) × (read_fields (decoded table.now) start fields.now (drop start message.now) ≡ Ok u) }
     ensures size { result ≡ length (field_notes plain_form (entries_of (decoded table.now) start fields.now (drop start message.now))) }
     ensures writes { notes.new ≡ lay (field_notes plain_form (entries_of (decoded table.now) start fields.now (drop start message.now))) notes.old }
 {
     let mut at = start;
     let mut written: usize = 0;
-    let mut i: usize = 0;
-    while i < fields.len() {
-        let field = octets::wide(fields[i]);
-        match field_read::place_field(&message[at..], field, table) {
-            FieldRead::Refused(_) => {
-                return written;
-            }
-            FieldRead::Content { start, length } => {
-                message_notes::put_field(field, at + start, length, &mut notes[written..]);
-                at = at + (start + length);
-                written += message_notes::FIELD_NOTE_SIZE;
-                i += 1;
-            }
-        }
+    for field in fields {
+        let field = usize::from(*field);
+        let Ok(content) = field_read::place_field(&message[at..], field, table) else {
+            return written;
+        };
+        message_notes::put_field(
+            field,
+            at + content.start,
+            content.length,
+            &mut notes[written..],
+        );
+        at += content.start + content.length;
+        written += message_notes::FIELD_NOTE_SIZE;
     }
     written
 }

@@ -1,7 +1,7 @@
 -- The fields of the bitmaps are listed, and read.
 use mathlib.Core.Path.{refl, sym}
-use native.Mathlib.Omega.{arith}
 use lib.Seq.{length-take-le}
+use native.Mathlib.Omega.{arith}
 use Rattle.message_reader.proofs.Answers.{head_few, head_room}
 use Rattle.message_reader.proofs.Noting.{list_is, list_few}
 use Rattle.message_reader.proofs.read_by.Goals as goal
@@ -21,9 +21,5 @@ slice_bounds-numbers-end c = list_few _ _ _ _ refl c.list_fields-list.ensures.co
 pub slice_bounds-read_listed-end : goal.slice_bounds-read_listed-end
 slice_bounds-read_listed-end c = sym (length-take-le _ _ (list_few _ _ _ _ refl c.list_fields-list.ensures.count c.list_fields-list.ensures.numbers))
 
-pub read_listed-requires : goal.read_listed-requires
-read_listed-requires c = record {
-  headed = c.requires.headed;
-  listed = list_is _ _ _ _ _ (head_few _ _ _ c.requires.headed (omega arith)) c.list_fields-list.ensures.count c.list_fields-list.ensures.numbers;
-  room = c.requires.room;
-}
+pub read_listed-requires-clause-listed : goal.read_listed-requires-clause-listed
+read_listed-requires-clause-listed c = list_is _ _ _ _ _ (head_few _ _ _ c.requires.headed (omega arith)) c.list_fields-list.ensures.count c.list_fields-list.ensures.numbers

@@ -1,16 +1,10 @@
 -- One law for each end, in Heads.
-use mathlib.Core.Path.{sym}
-use lib.Seq.{length-take-le}
 use Rattle.message_reader.proofs.Heads.{head_short, head_no_digit, head_maps}
 use borrow.Author.Rules.{rules}
-use native.Mathlib.Omega.{arith}
 use Rattle.message_reader.proofs.read_head.Goals as goal
 
 pub returns-then-message-lt12 : goal.returns-then-message-lt12
 returns-then-message-lt12 c = search (head_short, rules)
-
-pub slice_bounds-lead_between-end : goal.slice_bounds-lead_between-end
-slice_bounds-lead_between-end c = sym (length-take-le 4 c.args.message.now (omega arith))
 
 pub returns-then-digits-lt4 : goal.returns-then-digits-lt4
 returns-then-digits-lt4 c = search (head_no_digit, rules)

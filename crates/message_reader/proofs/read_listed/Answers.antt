@@ -1,6 +1,6 @@
 -- One law for each end, in Answers, over the table that is lent.
 use mathlib.Core.Path.{sym, ◌∙◌}
-use Rattle.message_reader.proofs.Answers.{head_few, head_room, ends_refused, ends_read}
+use Rattle.message_reader.proofs.Answers.{head_few, head_room, ends_refused, ends_read, ends_passed}
 use Rattle.message_reader.proofs.Noting.{body_is}
 use Rattle.field_table.specs.Codes.{decoded}
 use native.Mathlib.Omega.{arith}
@@ -21,13 +21,15 @@ write_notes-requires c = record {
   whole = head_room _ _ _ c.requires.headed (omega arith);
   listed = c.requires.listed;
   room = c.requires.room;
-  read = (sym (c.read_fields.ensures ∙ body_is (decoded c.args.table.now) _ _ _ c.requires.listed)) ∙ c.in-Used.is;
+  read = (sym (c.read_fields.ensures ∙ body_is (decoded c.args.table.now) _ _ _ c.requires.listed)) ∙ c.in_ok-used.was;
 }
 
-pub returns-in-Refused : goal.returns-in-Refused
-returns-in-Refused c = let e = ends_refused _ _ _ c.requires.room _ _ c.requires.headed ((sym (c.read_fields.ensures ∙ body_is (decoded c.args.table.now) _ _ _ c.requires.listed)) ∙ c.in-Refused.is) in
+pub returns-in_err-used : goal.returns-in_err-used
+returns-in_err-used c =
+    let read = (sym (c.read_fields.ensures ∙ body_is (decoded c.args.table.now) _ _ _ c.requires.listed)) ∙ c.in_err-used.was in
+    let e = ends_passed c.from_residual.ensures.1 (ends_refused _ _ _ c.requires.room _ _ c.requires.headed read) in
     record { answers = e.answer; writes = e.notes }
 
-pub returns-in-Used : goal.returns-in-Used
-returns-in-Used c = let e = ends_read _ _ _ c.requires.room _ _ _ c.requires.headed ((sym (c.read_fields.ensures ∙ body_is (decoded c.args.table.now) _ _ _ c.requires.listed)) ∙ c.in-Used.is) c.write_notes.ensures in
+pub returns : goal.returns
+returns c = let e = ends_read _ _ _ c.requires.room _ _ _ c.requires.headed ((sym (c.read_fields.ensures ∙ body_is (decoded c.args.table.now) _ _ _ c.requires.listed)) ∙ c.in_ok-used.was) c.write_notes.ensures in
     record { answers = e.answer; writes = e.notes }

@@ -1,7 +1,7 @@
 -- The head is laid first, then the fields behind it, then the end.
 use mathlib.Core.Path.{◌≡◌, sym, ap, ◌∙◌}
 use mathlib.Core.List.{List, ◌++◌}
-use Prim.Native.Nat.{ℕ, ◌+◌, ◌*◌, ◌≤◌, ◌-◌}
+use Prim.Native.Nat.{ℕ, ◌+◌, ◌*◌}
 use lib.ListN.{length, take, drop, length-append}
 use lib.Seq.{length-take-le}
 use Rattle.octets.specs.Lists.{lay}
@@ -10,7 +10,7 @@ use mathlib.Core.List.{append_assoc}
 use Rattle.octets.proofs.Lists.{placed_fits}
 use Rattle.octets.proofs.Parts.{lay_part, placed_part}
 use Rattle.message_language.specs.Language.{Entry}
-use Rattle.message_notes.specs.Dialect.{plain_form, note_size, head_size, dialect}
+use Rattle.message_notes.specs.Dialect.{plain_form, head_size, dialect}
 use Rattle.message_notes.specs.Notes.{head_note, end_note, field_notes, notes_of}
 use Rattle.message_notes.proofs.Sizes.{head_long, end_long}
 use Rattle.message_reader.specs.Reader.{entries_of, reading_with}
@@ -31,7 +31,7 @@ pub write_fields-written-requires : goal.write_fields-written-requires
 write_fields-written-requires c = let t = decoded c.args.table.now in
     record {
       start_in_bounds = c.requires.whole;
-      room = omega (arith, listed_few (dialect t) _ _ (omega arith) c.requires.few _ c.requires.listed, c.write_fields-arg-1.given, c.notes-1.given, c.requires.room);
+      room = omega (arith, listed_few (dialect t) _ _ (omega arith) c.requires.few _ c.requires.listed, c.notes-1.given, c.requires.room);
       read = (_, body_is t _ _ _ c.requires.listed ∙ c.requires.read);
     }
 
