@@ -30,34 +30,20 @@ pub fn pan_fault(content: &[u8]) -> u8
     refusal::PAN_FAILS
 }
 
+#[tactic(auto, unfolding(crate::specs::Pan::is_pan, octets::specs::Lists::between))]
 fn is_pan(content: &[u8]) -> bool
     ensures { result ≡ is_pan content.now }
 {
-    let count = count_digits(content);
-    if count < LEAST_DIGITS {
-        return false;
-    }
-    if MOST_DIGITS < count {
-        return false;
-    }
-    luhn_remainder(content) == 0
+    (LEAST_DIGITS..=MOST_DIGITS).contains(&count_digits(content)) && luhn_remainder(content) == 0
 }
 
 // How many bytes of s are digits.
 fn count_digits(s: &[u8]) -> usize
     ensures { result ≡ length (digits_in s.now) }
 {
-    let mut count: usize = 0;
-    let mut i: usize = 0;
-    while i < s.len() {
-        if octets::is_between(s[i], b'0', b'9') {
-            count += 1;
-            i += 1;
-        } else {
-            i += 1;
-        }
-    }
-    count
+    s.iter()
+        .filter(|b| octets::is_between(**b, b'0', b'9'))
+        .count()
 }
 
 // The sum over the digits of s, from the right, modulo 10: every second one is doubled. Bytes that are no digits are passed over.
@@ -66,33 +52,29 @@ fn luhn_remainder(s: &[u8]) -> usize
 {
     let mut sum: usize = 0;
     let mut doubles = false;
-    let mut i = s.len();
-    while 0 < i {
-        let b = s[i - 1];
-        if octets::is_between(b, b'0', b'9') {
-            sum = (sum + worth_of(b, doubles)) % 10;
+    for b in s.iter().rev() {
+        if octets::is_between(*b, b'0', b'9') {
+            sum = (sum + worth_of(*b, doubles)) % 10;
             doubles = !doubles;
-            i -= 1;
-        } else {
-            i -= 1;
         }
     }
     sum
 }
 
 // What the digit b adds to the sum.
+#[tactic(auto, unfolding(crate::specs::Pan::worth))]
 fn worth_of(b: u8, doubles: bool) -> usize
     requires { 48 ≤ b }
     ensures value { result ≡ worth doubles (b - 48) }
     ensures small { result < 512 }
 {
-    let d = octets::wide(b) - 48;
-    if !doubles {
-        return d;
-    }
+    let d = usize::from(b - b'0');
     let twice = 2 * d;
-    if twice <= 9 {
-        return twice;
+    if !doubles {
+        d
+    } else if twice <= 9 {
+        twice
+    } else {
+        twice - 9
     }
-    twice - 9
 }
