@@ -1,12 +1,13 @@
 // Required fields, by the MTI. 01, "Checks and conversions".
 #![tactic(auto)]
 
-ghost use Rattle.std.specs.Prelude.{◌≡◌, length};
-ghost use Rattle.refusal.specs.Refusals.{told_checked};
+ghost use Rattle.std.specs.Prelude.{◌≡◌, not, length, find, MatchOption};
+ghost use Rattle.refusal.specs.Numbers.{required_missing};
+ghost use Rattle.refusal.specs.Refusals.{refusal, told_checked};
 ghost use Rattle.field_table.specs.House.{house};
 ghost use Rattle.bitmap.specs.Bitmaps.{has_field};
 ghost use Rattle.message_notes.specs.Dialect.{dialect};
-ghost use Rattle.validation_required.specs.Required.{is_card_request, is_response, required_of_response, required_more, required_by, first_missing, missing_answer, required_in};
+ghost use Rattle.validation_required.specs.Required.{required_by, required_in};
 
 use bitmap::FieldSet;
 use message_walk::Walked;
@@ -22,91 +23,42 @@ pub fn check_required(values: &[u8], notes: &[u8]) -> Checked
     let end = walk.end;
     match end {
         Walked::Refused(refusal) => Checked::Refused(refusal),
-        Walked::Ended { at: _, said: _ } => {
+        Walked::Ended { .. } => {
             answer_missing(first_missing(message_notes::mti_in(notes), walk.fields))
         }
     }
 }
 
-fn answer_missing(field: usize) -> Checked
-    ensures { result ≡ missing_answer field }
+// What is answered where that field is missing.
+fn answer_missing(missing: Option<usize>) -> Checked
+    ensures { MatchOption missing (result ≡ Checked.Passed) (λ f. result ≡ Checked.Refused (refusal required_missing f 0)) }
 {
-    if field == 0 {
-        return Checked::Passed;
+    match missing {
+        None => Checked::Passed,
+        Some(field) => Checked::Refused(Refusal {
+            number: refusal::REQUIRED_MISSING,
+            field,
+            position: 0,
+        }),
     }
-    Checked::Refused(Refusal {
-        number: refusal::REQUIRED_MISSING,
-        field,
-        position: 0,
-    })
 }
 
-// The first of the fields that the MTI requires and that is missing; 0 where none is.
-fn first_missing(mti: &[u8], fields: FieldSet) -> usize
-    requires { length mti.now ≡ 4 }
-    ensures { result ≡ first_missing (has_field fields.bits) (required_by mti.now) }
+// The first of the fields that the MTI requires and that is missing.
+fn first_missing(mti: &[u8], fields: FieldSet) -> Option<usize>
+    ensures { result ≡ find (λ f. not (has_field fields.bits f)) (required_by mti.now) }
 {
-    if !fields.has(3) {
-        return 3;
-    }
-    if !fields.has(11) {
-        return 11;
-    }
-    if !fields.has(12) {
-        return 12;
-    }
-    if !fields.has(13) {
-        return 13;
-    }
-    missing_behind(mti, fields)
+    required_by(mti).iter().copied().find(|f| !fields.has(*f))
 }
 
-// The same of the fields behind the four that every message needs.
-fn missing_behind(mti: &[u8], fields: FieldSet) -> usize
-    requires { length mti.now ≡ 4 }
-    ensures { result ≡ first_missing (has_field fields.bits) (required_more mti.now) }
+// The fields that the MTI requires, in 01's order: card and amount of a request, whose second digit is 1 or 2 and whose third is 0; the
+// response code of a response, whose third digit is 1.
+#[tactic(auto, unfolding(crate::specs::Required::required_by, crate::specs::Required::required_more, crate::specs::Required::required_of_response, crate::specs::Required::is_card_request, crate::specs::Required::is_response))]
+fn required_by(mti: &[u8]) -> &'static [usize]
+    ensures { result.now ≡ required_by mti.now }
 {
-    if !is_card_request(mti) {
-        return missing_of_response(mti, fields);
+    match mti {
+        [_, b'1' | b'2', b'0', ..] => &[3, 11, 12, 13, 2, 4],
+        [_, _, b'1', ..] => &[3, 11, 12, 13, 39],
+        _ => &[3, 11, 12, 13],
     }
-    if !fields.has(2) {
-        return 2;
-    }
-    if !fields.has(4) {
-        return 4;
-    }
-    missing_of_response(mti, fields)
-}
-
-// 39, where the MTI is a response's and it is missing; else 0.
-fn missing_of_response(mti: &[u8], fields: FieldSet) -> usize
-    requires { length mti.now ≡ 4 }
-    ensures { result ≡ first_missing (has_field fields.bits) (required_of_response mti.now) }
-{
-    if !is_response(mti) {
-        return 0;
-    }
-    if !fields.has(39) {
-        return 39;
-    }
-    0
-}
-
-// Whether the MTI asks for card and amount: its second digit is 1 or 2, its third 0.
-fn is_card_request(mti: &[u8]) -> bool
-    requires { length mti.now ≡ 4 }
-    ensures { result ≡ is_card_request mti.now }
-{
-    if !octets::is_between(mti[1], b'1', b'2') {
-        return false;
-    }
-    mti[2] == b'0'
-}
-
-// Whether the MTI is a response's: its third digit is 1.
-fn is_response(mti: &[u8]) -> bool
-    requires { length mti.now ≡ 4 }
-    ensures { result ≡ is_response mti.now }
-{
-    mti[2] == b'1'
 }
