@@ -2,6 +2,7 @@
 use Prim.Native.Nat.{ℕ}
 use mathlib.Core.Path.{◌≡◌, refl, ap, ◌∙◌}
 use mathlib.Core.Bool.{Bool, true, false, cond}
+use mathlib.Core.Bool.{Bool, true, false, cond}
 use native.Mathlib.Omega.{arith}
 use Rattle.std.specs.Prelude.{Result, Ok, Err}
 use Rattle.std.specs.Result.{IsErrAnd}
@@ -21,6 +22,11 @@ by_test (Err c) g b = b c refl
 pub passed : (b : Bool) (rest : Test) (c : Cause) → cond b rest (bad c) ≡ good → (b ≡ true) × (rest ≡ good)
 passed true rest c e = (refl, e)
 passed false rest c e = bad_good c e
+
+-- a test whose first part is a flag
+pub passed_both : (b : Bool) (t : Test) (c : Cause) → cond b t (bad c) ≡ good → (b ≡ true) × (t ≡ good)
+passed_both true t c e = (refl, e)
+passed_both false t c e = bad_good c e
 
 -- the cause that a test found becomes a refusal with no field, at position 0
 pub handed_on : {A : Type 0} {r : Result A Refusal} {c : Cause} → IsErrAnd r (λ x. x ≡ plain c) → r ≡ Err (plain c)

@@ -11,6 +11,7 @@ use Rattle.std.specs.Prelude.{ℕ, Bool, cond, List, take, drop}
 use Rattle.octets.specs.Lists.{both, between}
 use Rattle.octets.specs.Numbers.{are_digits, decimal_of}
 use Rattle.refusal.specs.Numbers.{date_or_time_wrong}
+use Rattle.refusal.specs.Refusals.{Test, good, bad}
 
 unfoldable pub pair : ℕ → List ℕ → ℕ
 pair i s = decimal_of (take 2 (drop i s))
@@ -21,8 +22,8 @@ is_date s = both (are_digits 4 s) (both (between 1 12 (pair 0 s)) (between 1 31 
 unfoldable pub is_time : List ℕ → Bool
 is_time s = both (are_digits 6 s) (both (between 0 23 (pair 0 s)) (both (between 0 59 (pair 2 s)) (between 0 59 (pair 4 s))))
 
-unfoldable pub date_fault : List ℕ → ℕ
-date_fault s = cond (is_date s) 0 date_or_time_wrong
+unfoldable pub date_fault : List ℕ → Test
+date_fault s = cond (is_date s) good (bad date_or_time_wrong)
 
-unfoldable pub time_fault : List ℕ → ℕ
-time_fault s = cond (is_time s) 0 date_or_time_wrong
+unfoldable pub time_fault : List ℕ → Test
+time_fault s = cond (is_time s) good (bad date_or_time_wrong)

@@ -4,14 +4,14 @@
 ghost use Rattle.std.specs.Prelude.{◌≡◌, ◌+◌, ◌≤◌, cond, length};
 ghost use Rattle.octets.specs.Lists.{between};
 ghost use Rattle.refusal.specs.Numbers.{date_or_time_wrong};
-ghost use Rattle.refusal.specs.Refusals.{checked, told_checked};
+ghost use Rattle.refusal.specs.Refusals.{good, bad, checked, told_checked};
 ghost use Rattle.validation_dates.specs.Dates.{pair, is_date, is_time, date_fault, time_fault};
 
-use refusal::Checked;
+use refusal::{Cause, Refusal};
 
 // Checks one content as a date, MMDD.
 #[tactic(auto, unfolding(crate::specs::Dates::date_fault))]
-pub fn check_date(content: &[u8]) -> Checked
+pub fn check_date(content: &[u8]) -> Result<(), Refusal>
     ensures answers { result ≡ checked (date_fault content.now) 0 }
     ensures tells { told_checked result ≡ told_checked (checked (date_fault content.now) 0) }
 {
@@ -20,7 +20,7 @@ pub fn check_date(content: &[u8]) -> Checked
 
 // Checks one content as a time of day, hhmmss.
 #[tactic(auto, unfolding(crate::specs::Dates::time_fault))]
-pub fn check_time(content: &[u8]) -> Checked
+pub fn check_time(content: &[u8]) -> Result<(), Refusal>
     ensures answers { result ≡ checked (time_fault content.now) 0 }
     ensures tells { told_checked result ≡ told_checked (checked (time_fault content.now) 0) }
 {
@@ -29,13 +29,13 @@ pub fn check_time(content: &[u8]) -> Checked
 
 // What both checks answer.
 #[tactic(auto, unfolding(refusal::specs::Refusals::checked))]
-fn answer(good: bool) -> Checked
-    ensures { result ≡ checked (cond good 0 date_or_time_wrong) 0 }
+fn answer(holds: bool) -> Result<(), Refusal>
+    ensures { result ≡ checked (cond holds good (bad date_or_time_wrong)) 0 }
 {
-    if good {
-        return Checked::Passed;
+    if !holds {
+        return Err(Cause::DateOrTimeWrong.into());
     }
-    refusal::answer_check(refusal::DATE_OR_TIME_WRONG, 0)
+    Ok(())
 }
 
 #[tactic(auto, unfolding(crate::specs::Dates::is_date, octets::specs::Numbers::are_digits))]

@@ -1,17 +1,20 @@
 -- What it says of a content that it passes the field check (specs/Passing.antt). Assumes nothing.
-use Prim.Native.Nat.{ℕ, ◌<◌}
+use Prim.Native.Nat.{ℕ}
 use mathlib.Core.Path.{◌≡◌, refl, ap, ◌∙◌}
 use mathlib.Core.Bool.{Bool, true, false, cond}
 use mathlib.Core.List.{List, [], ◌∷◌}
 use native.Mathlib.Omega.{arith}
 use lib.ListN.{length}
+use Rattle.std.specs.Result.{is_ok}
 use lib.Dec.{eqb}
-use borrow.Author.Tests.{ne_eqb}
 use Rattle.octets.specs.Lists.{both, between, all}
 use Rattle.octets.specs.Numbers.{is_digit, are_digits}
-use Rattle.octets.proofs.Cases.{by_eq, passed}
+use Rattle.octets.proofs.Cases.{by_eq}
 use Rattle.octets.proofs.Lists.{between_low, between_high}
 use Rattle.refusal.specs.Numbers.{number_not_allowed, class_broken, length_not_allowed}
+use Rattle.refusal.specs.Refusals.{good, bad}
+use Rattle.refusal.specs.declared.Cause.{Cause}
+use Rattle.refusal.proofs.Tests.{passed_both}
 use Rattle.bitmap.specs.Bitmaps.{is_field}
 use Rattle.field_table.specs.Table.{Table, table_of}
 use Rattle.field_table.specs.House.{house, house_rows}
@@ -28,15 +31,15 @@ pub record Passes (t : Table) (f : ℕ) (s : List ℕ) : Type 0 where
   pub number : is_field f ≡ true
   pub class : conforms (t.class f) s ≡ true
   pub fits : is_allowed_length t f (length s) ≡ true
-  pub value : first_failing (value_tests f s) ≡ 0
+  pub value : first_failing (value_tests f s) ≡ good
 
-pub passes : (t : Table) (f : ℕ) (s : List ℕ) → field_fault t f s ≡ 0 → Passes t f s
+pub passes : (t : Table) (f : ℕ) (s : List ℕ) → field_fault t f s ≡ good → Passes t f s
 unfolding field_fault field_tests
 passes t f s e =
     let last = asks (is_allowed_length t f (length s)) length_not_allowed ∷ value_tests f s in
-    let number = passed (is_field f) (first_failing (asks (conforms (t.class f) s) class_broken ∷ last)) number_not_allowed (omega arith) e in
-    let class = passed (conforms (t.class f) s) (first_failing last) class_broken (omega arith) number.1 in
-    let fits = passed (is_allowed_length t f (length s)) (first_failing (value_tests f s)) length_not_allowed (omega arith) class.1 in
+    let number = passed_both (is_field f) (first_failing (asks (conforms (t.class f) s) class_broken ∷ last)) number_not_allowed e in
+    let class = passed_both (conforms (t.class f) s) (first_failing last) class_broken number.1 in
+    let fits = passed_both (is_allowed_length t f (length s)) (first_failing (value_tests f s)) length_not_allowed class.1 in
     record { number = number.0; class = class.0; fits = fits.0; value = fits.1 }
 
 pub taken_by_writer : (t : Table) → TakenByWriter t
@@ -51,23 +54,23 @@ taken_by_writer t f s e =
     )
 
 -- Fields 49 to 51 are three digits long: what the check asks of them is what makes a currency code, in the other order.
-only_then : (a b : Bool) (m n : ℕ) → 0 < m → 0 < n → eqb (cond a (cond b 0 n) m) 0 ≡ both b a
-only_then true true m n p q = refl
-only_then true false m n p q = ne_eqb n 0 (λ e. omega (arith, e, q))
-only_then false true m n p q = ne_eqb m 0 (λ e. omega (arith, e, p))
-only_then false false m n p q = ne_eqb m 0 (λ e. omega (arith, e, p))
+only_then : (a b : Bool) (x y : Cause) → is_ok (cond a (cond b good (bad y)) (bad x)) ≡ both b a
+only_then true true x y = refl
+only_then true false x y = refl
+only_then false true x y = refl
+only_then false false x y = refl
 
-at_49 : (s : List ℕ) → eqb (field_fault house 49 s) 0 ≡ is_currency s
+at_49 : (s : List ℕ) → is_ok (field_fault house 49 s) ≡ is_currency s
 unfolding field_fault field_tests value_tests are_digits house house_rows table_of is_field between is_allowed_length
-at_49 s = only_then (all is_digit s) (eqb (length s) 3) class_broken length_not_allowed (omega arith) (omega arith)
+at_49 s = only_then (all is_digit s) (eqb (length s) 3) class_broken length_not_allowed
 
-at_50 : (s : List ℕ) → eqb (field_fault house 50 s) 0 ≡ is_currency s
+at_50 : (s : List ℕ) → is_ok (field_fault house 50 s) ≡ is_currency s
 unfolding field_fault field_tests value_tests are_digits house house_rows table_of is_field between is_allowed_length
-at_50 s = only_then (all is_digit s) (eqb (length s) 3) class_broken length_not_allowed (omega arith) (omega arith)
+at_50 s = only_then (all is_digit s) (eqb (length s) 3) class_broken length_not_allowed
 
-at_51 : (s : List ℕ) → eqb (field_fault house 51 s) 0 ≡ is_currency s
+at_51 : (s : List ℕ) → is_ok (field_fault house 51 s) ≡ is_currency s
 unfolding field_fault field_tests value_tests are_digits house house_rows table_of is_field between is_allowed_length
-at_51 s = only_then (all is_digit s) (eqb (length s) 3) class_broken length_not_allowed (omega arith) (omega arith)
+at_51 s = only_then (all is_digit s) (eqb (length s) 3) class_broken length_not_allowed
 
 pub decides_currency : DecidesCurrency house
 unfolding DecidesCurrency
@@ -75,10 +78,10 @@ decides_currency f s h =
     let l = between_low _ _ f h in
     let u = between_high _ _ f h in
     by_eq f 49
-    (λ e. ap (λ (g : ℕ). eqb (field_fault house g s) 0) e ∙ at_49 s)
+    (λ e. ap (λ (g : ℕ). is_ok (field_fault house g s)) e ∙ at_49 s)
     (λ n. by_eq f 50
-    (λ e. ap (λ (g : ℕ). eqb (field_fault house g s) 0) e ∙ at_50 s)
-    (λ m. let e : f ≡ 51 = omega (arith, l, u, n, m) in ap (λ (g : ℕ). eqb (field_fault house g s) 0) e ∙ at_51 s))
+    (λ e. ap (λ (g : ℕ). is_ok (field_fault house g s)) e ∙ at_50 s)
+    (λ m. let e : f ≡ 51 = omega (arith, l, u, n, m) in ap (λ (g : ℕ). is_ok (field_fault house g s)) e ∙ at_51 s))
 
 -- any bytes are of class b
 binary_conforms : (s : List ℕ) → conforms B s ≡ true

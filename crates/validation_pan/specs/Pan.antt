@@ -17,6 +17,7 @@ use Rattle.std.specs.Prelude.{ℕ, ◌+◌, ◌-◌, ◌*◌, ◌%◌, Bool, fal
 use Rattle.octets.specs.Lists.{both, between}
 use Rattle.octets.specs.Numbers.{is_digit}
 use Rattle.refusal.specs.Numbers.{pan_fails}
+use Rattle.refusal.specs.Refusals.{Test, good, bad}
 
 unfoldable pub digits_in : List ℕ → List ℕ
 digits_in [] = []
@@ -44,5 +45,5 @@ most_digits = 19
 unfoldable pub is_pan : List ℕ → Bool
 is_pan s = both (between least_digits most_digits (length (digits_in s))) (eqb (luhn_sum (digits_in s) % 10) 0)
 
-unfoldable pub pan_fault : List ℕ → ℕ
-pan_fault s = cond (is_pan s) 0 pan_fails
+unfoldable pub pan_fault : List ℕ → Test
+pan_fault s = cond (is_pan s) good (bad pan_fails)

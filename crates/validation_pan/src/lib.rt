@@ -5,7 +5,7 @@ ghost use Rattle.std.specs.Prelude.{◌≡◌, ◌-◌, ◌%◌, ◌<◌, ◌≤
 ghost use Rattle.refusal.specs.Refusals.{checked, told_checked};
 ghost use Rattle.validation_pan.specs.Pan.{digits_in, worth, luhn_sum, is_pan, pan_fault};
 
-use refusal::Checked;
+use refusal::{Cause, Refusal};
 
 // How many digits a PAN has, at least and at most.
 const LEAST_DIGITS: usize = 12;
@@ -13,21 +13,22 @@ const LEAST_DIGITS: usize = 12;
 const MOST_DIGITS: usize = 19;
 
 // Checks one content as a PAN.
-pub fn check_pan(content: &[u8]) -> Checked
+pub fn check_pan(content: &[u8]) -> Result<(), Refusal>
     ensures answers { result ≡ checked (pan_fault content.now) 0 }
     ensures tells { told_checked result ≡ told_checked (checked (pan_fault content.now) 0) }
 {
     refusal::answer_check(pan_fault(content), 0)
 }
 
-// What is wrong with the content as a PAN: 17, or 0 where nothing is.
-pub fn pan_fault(content: &[u8]) -> u8
+// What is wrong with the content as a PAN: 17, where something is.
+#[tactic(auto, unfolding(crate::specs::Pan::pan_fault))]
+pub fn pan_fault(content: &[u8]) -> Result<(), Cause>
     ensures { result ≡ pan_fault content.now }
 {
-    if is_pan(content) {
-        return 0;
+    if !is_pan(content) {
+        return Err(Cause::PanFails);
     }
-    refusal::PAN_FAILS
+    Ok(())
 }
 
 #[tactic(auto, unfolding(crate::specs::Pan::is_pan, octets::specs::Lists::between))]
