@@ -7,6 +7,7 @@ use native.Mathlib.Omega.{arith}
 use lib.ListN.{length, take, drop, length-append, length-take, take-append-drop}
 use lib.Seq.{take_at, drop_at, drop-drop, drop-append-add}
 use borrow.Rule.Slice.PartMut.{mid_of, put_mid}
+use Rattle.std.specs.Prelude.{Ok}
 use Rattle.octets.specs.Lists.{lay}
 use Rattle.octets.specs.Texts.{text}
 use Rattle.octets.proofs.Parts.{Written, lay_part}
@@ -17,8 +18,7 @@ use Rattle.message_notes.specs.Notes.{head_note, field_notes, end_note, notes_of
 use Rattle.message_notes.proofs.Sizes.{head_long}
 use Rattle.message_notes.proofs.Spelling.{AllFit}
 use Rattle.message_notes.proofs.Sound.{house_sound}
-use Rattle.message_reader.specs.Reader.{read_message, reading_with}
-use Rattle.message_reader.specs.declared.ReadAnswer.TheVariants.{Accepted}
+use Rattle.message_reader.specs.Reader.{acceptance, read_message, reading_with}
 use Rattle.message_reader.proofs.Language.{accepts}
 use Rattle.message_reader.proofs.Noting.{entries_few}
 use Rattle.message_reader.proofs.Small.{entries_fit}
@@ -40,13 +40,13 @@ lay_over a b d =
 -- An input that is not too long was accepted, and the text d has the room of any report.
 pub record Opened (s : List ℕ) (u m : ℕ) (d : List ℕ) : Type 0 where
   pub short : length s ≤ input_most
-  pub read : read_message house (dialect house).most s ≡ Accepted u m
+  pub read : read_message house (dialect house).most s ≡ Ok (acceptance u m)
   pub room : text_room ≤ length d
 
 pub opened_of :
     {s : List ℕ} {u m : ℕ} {d : List ℕ} →
     length s ≤ input_most →
-    read_message house (dialect house).most s ≡ Accepted u m →
+    read_message house (dialect house).most s ≡ Ok (acceptance u m) →
     text_room ≤ length d →
     Opened s u m d
 opened_of short read room = record { short = short; read = read; room = room }

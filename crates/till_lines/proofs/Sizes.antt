@@ -6,6 +6,7 @@ use native.Mathlib.Omega.{arith}
 use lib.ListN.{length, length-append}
 use Rattle.octets.specs.Texts.{text}
 use Rattle.octets.proofs.Numerals.{numeral_most}
+use Rattle.refusal.specs.Numbers.{number_of}
 use Rattle.refusal.specs.declared.Refusal.{Refusal}
 use Rattle.field_table.specs.House.{house}
 use Rattle.message_language.specs.Language.{Entry, Reading}
@@ -18,13 +19,13 @@ named_most : (w : List ℕ) (n e k : ℕ) → n < 10 ^ suc k → length (named w
 named_most w n e k h = omega (arith, named_long w n e, numeral_most k n h)
 
 -- a refusal whose numbers are those of a machine
-pub refused_most : (r : Refusal) → r.number < 256 → r.field < 18446744073709551616 → r.position < 18446744073709551616 → length (refused_line r) ≤ text_room
+pub refused_most : (r : Refusal) → number_of r.cause < 256 → r.field < 18446744073709551616 → r.position < 18446744073709551616 → length (refused_line r) ≤ text_room
 unfolding refused_line
 refused_most r n f p =
     omega (
       arith,
-      tripled_long (text "refused") r.number (text "field") r.field (text "at") r.position,
-      named_most (text "refused") r.number space 2 (omega arith),
+      tripled_long (text "refused") (number_of r.cause) (text "field") r.field (text "at") r.position,
+      named_most (text "refused") (number_of r.cause) space 2 (omega arith),
       named_most (text "field") r.field space 19 (omega arith),
       named_most (text "at") r.position newline 19 (omega arith),
     )

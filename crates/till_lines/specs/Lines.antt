@@ -18,19 +18,18 @@
 --   report_text d s b    == each byte of that text afterwards
 --
 -- Assumes nothing: these are definitions.
-use Rattle.std.specs.Prelude.{ℕ, cond, List, [], ◌∷◌, ◌++◌, ltb, length}
+use Rattle.std.specs.Prelude.{ℕ, cond, List, [], ◌∷◌, ◌++◌, ltb, length, Result, Ok, Err}
 use Rattle.octets.specs.Lists.{lay}
 use Rattle.octets.specs.Numerals.{numeral}
 use Rattle.octets.specs.Texts.{text}
-use Rattle.refusal.specs.Numbers.{input_too_long}
+use Rattle.refusal.specs.Numbers.{number_of, input_too_long}
 use Rattle.refusal.specs.Refusals.{plain}
 use Rattle.refusal.specs.declared.Refusal.{Refusal}
 use Rattle.field_table.specs.Table.{Table}
 use Rattle.message_language.specs.Language.{Entry, Reading}
 use Rattle.message_notes.specs.Dialect.{Dialect}
 use Rattle.message_reader.specs.Reader.{read_message, reading_with}
-use Rattle.message_reader.specs.declared.ReadAnswer.{ReadAnswer}
-use Rattle.message_reader.specs.declared.ReadAnswer.TheVariants.{Accepted, Refused}
+use Rattle.message_reader.specs.declared.Accepted.{Accepted}
 
 abbrev pub space : ℕ
 space = 32
@@ -59,11 +58,11 @@ reading_lines r u =
     mti_line r.mti ++ (named (text "bitmaps") r.count newline ++ (field_lines r.entries ++ named (text "used") u newline))
 
 unfoldable pub refused_line : Refusal → List ℕ
-refused_line r = tripled (text "refused") r.number (text "field") r.field (text "at") r.position
+refused_line r = tripled (text "refused") (number_of r.cause) (text "field") r.field (text "at") r.position
 
-unfoldable pub answer_lines : Table → List ℕ → ReadAnswer → List ℕ
-answer_lines t s (Refused r) = refused_line r
-answer_lines t s (Accepted u k) = reading_lines (reading_with t s k) u
+unfoldable pub answer_lines : Table → List ℕ → Result Accepted Refusal → List ℕ
+answer_lines t s (Err r) = refused_line r
+answer_lines t s (Ok x) = reading_lines (reading_with t s x.bitmaps) x.used
 
 abbrev pub input_most : ℕ
 input_most = 60000

@@ -7,13 +7,12 @@ ghost use Rattle.field_table.specs.House.{house};
 ghost use Rattle.message_language.specs.Language.{entry};
 ghost use Rattle.message_notes.specs.Dialect.{dialect, plain_form};
 ghost use Rattle.message_notes.specs.Notes.{notes_of};
-ghost use Rattle.message_reader.specs.Reader.{read_message, reading_with};
-ghost use Rattle.message_reader.specs.declared.ReadAnswer.TheVariants.{Accepted};
+ghost use Rattle.message_reader.specs.Reader.{acceptance, read_message, reading_with};
 ghost use Rattle.till_lines.specs.Lines.{input_most, text_room, named, tripled, mti_line, field_line, refused_line, reading_lines, report_size, report_text};
 
 use message_notes::Note;
-use message_reader::ReadAnswer;
-use refusal::Refusal;
+use message_reader::Accepted;
+use refusal::{Cause, Refusal};
 
 // 01: "standard input (at most 60,000 bytes)".
 pub const INPUT_MOST: usize = 60000;
@@ -38,17 +37,12 @@ pub fn report(input: &[u8], text: &mut [u8]) -> usize
         return 0;
     }
     if INPUT_MOST < input.len() {
-        let refusal = Refusal {
-            number: refusal::INPUT_TOO_LONG,
-            field: 0,
-            position: 0,
-        };
-        return put_refused(refusal, text);
+        return put_refused(Cause::InputTooLong.at(0, 0), text);
     }
     let mut notes = [0u8; message_notes::NOTES_ROOM];
     match message_reader::read(input, &mut notes) {
-        ReadAnswer::Refused(refusal) => put_refused(refusal, text),
-        ReadAnswer::Accepted { used, bitmaps } => put_reading(input, used, bitmaps, &notes, text),
+        Err(refusal) => put_refused(refusal, text),
+        Ok(Accepted { used, bitmaps }) => put_reading(input, used, bitmaps, &notes, text),
     }
 }
 
@@ -58,16 +52,19 @@ fn put_refused(refusal: Refusal, out: &mut [u8]) -> usize
     ensures size { result ≡ length (refused_line refusal) }
     ensures writes { out.new ≡ lay (refused_line refusal) out.old }
 {
-    let number = octets::wide(refusal.number);
-    let field = refusal.field;
-    let position = refusal.position;
+    let Refusal {
+        cause,
+        field,
+        position,
+    } = refusal;
+    let number = usize::from(cause.number());
     put_tripled(b"refused", number, b"field", field, b"at", position, out)
 }
 
 // Writes the lines of an input that was accepted, each behind the last: the fields' by walking the notes.
 fn put_reading(input: &[u8], used: usize, bitmaps: usize, notes: &[u8], text: &mut [u8]) -> usize
     requires short { length input.now ≤ input_most }
-    requires read { read_message house (dialect house).most input.now ≡ Accepted used bitmaps }
+    requires read { read_message house (dialect house).most input.now ≡ Ok (acceptance used bitmaps) }
     requires noted { take (length (notes_of plain_form (reading_with house input.now bitmaps) used)) notes.now ≡ notes_of plain_form (reading_with house input.now bitmaps) used }
     requires room { text_room ≤ length text.old }
     ensures size { result ≡ length (reading_lines (reading_with house input.now bitmaps) used) }

@@ -1,5 +1,7 @@
 -- The line is one of three words and their numbers, which are a machine's.
 use Prim.Native.Nat.{◌<◌}
+use mathlib.Core.Path.{◌≡◌, ◌∙◌}
+use Rattle.refusal.specs.Numbers.{number_of}
 use Rattle.till_lines.specs.Lines.{refused_line}
 use Rattle.till_lines.proofs.Sizes.{refused_most}
 use native.Mathlib.Omega.{arith}
@@ -7,14 +9,18 @@ use Rattle.till_lines.proofs.put_refused.Goals as goal
 
 pub put_tripled-requires : goal.put_tripled-requires
 unfolding refused_line
-put_tripled-requires c = let n : c.args.refusal.number < 256 = omega (arith, c.wide-number.ensures.value, c.wide-number.ensures.small) in
+put_tripled-requires c =
+    let e : c.from-number.result ≡ number_of c.args.refusal.cause = c.from-number.ensures ∙ c.number.ensures in
+    let n : number_of c.args.refusal.cause < 256 = omega arith in
     let f : c.args.refusal.field < 18446744073709551616 = omega arith in
     let p : c.args.refusal.position < 18446744073709551616 = omega arith in
-    rw c.wide-number.ensures.value (omega (arith, refused_most c.args.refusal n f p, c.requires))
+    rw e (omega (arith, refused_most c.args.refusal n f p, c.requires))
 
 pub returns : goal.returns
 unfolding refused_line
-returns c = record {
-  size = rw (← c.wide-number.ensures.value) c.put_tripled.ensures.size;
-  writes = rw (← c.wide-number.ensures.value) c.put_tripled.ensures.writes;
-}
+returns c =
+    let e : c.from-number.result ≡ number_of c.args.refusal.cause = c.from-number.ensures ∙ c.number.ensures in
+    record {
+      size = rw (← e) c.put_tripled.ensures.size;
+      writes = rw (← e) c.put_tripled.ensures.writes;
+    }

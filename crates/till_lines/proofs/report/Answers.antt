@@ -9,13 +9,13 @@ pub returns-then-text-lt-TEXT_ROOM : goal.returns-then-text-lt-TEXT_ROOM
 returns-then-text-lt-TEXT_ROOM c = let r = report_short (dialect house) _ _ c.if-text-lt-TEXT_ROOM.true in record { answers = r.0; writes = r.1 }
 
 pub returns-then-input-gt-INPUT_MOST : goal.returns-then-input-gt-INPUT_MOST
-returns-then-input-gt-INPUT_MOST c = let r = report_written (dialect house) c.args.input.now c.args.text.now c.if-text-lt-TEXT_ROOM.false _ _ _ (too_long (dialect house) c.args.input.now c.if-input-gt-INPUT_MOST.true) c.put_refused.ensures.size c.put_refused.ensures.writes in record {
+returns-then-input-gt-INPUT_MOST c = let r = report_written (dialect house) c.args.input.now c.args.text.now c.if-text-lt-TEXT_ROOM.false _ _ _ (too_long (dialect house) c.args.input.now c.if-input-gt-INPUT_MOST.true c.at.ensures) c.put_refused.ensures.size c.put_refused.ensures.writes in record {
   answers = r.0;
   writes = r.1;
 }
 
 pub put_reading-requires : goal.put_reading-requires
-put_reading-requires c = let g = sym c.read.ensures.answers ∙ c.in-Accepted.is in
+put_reading-requires c = let g = sym c.read.ensures.answers ∙ c.in-Ok.is in
     let m = answered (dialect house) c.args.input.now _ g in
     record {
       short = c.if-input-gt-INPUT_MOST.false;
@@ -24,16 +24,16 @@ put_reading-requires c = let g = sym c.read.ensures.answers ∙ c.in-Accepted.is
       room = c.if-text-lt-TEXT_ROOM.false;
     }
 
-pub returns-in-Refused : goal.returns-in-Refused
-returns-in-Refused c = let g = sym c.read.ensures.answers ∙ c.in-Refused.is in
+pub returns-in-Err : goal.returns-in-Err
+returns-in-Err c = let g = sym c.read.ensures.answers ∙ c.in-Err.is in
     let m = answered (dialect house) c.args.input.now _ g in
-    let r = report_written (dialect house) c.args.input.now c.args.text.now c.if-text-lt-TEXT_ROOM.false _ _ _ (refused_lines (dialect house) c.args.input.now c.if-input-gt-INPUT_MOST.false _ m) c.put_refused-in-Refused.ensures.size c.put_refused-in-Refused.ensures.writes in record {
+    let r = report_written (dialect house) c.args.input.now c.args.text.now c.if-text-lt-TEXT_ROOM.false _ _ _ (refused_lines (dialect house) c.args.input.now c.if-input-gt-INPUT_MOST.false _ m) c.put_refused-in-Err.ensures.size c.put_refused-in-Err.ensures.writes in record {
       answers = r.0;
       writes = r.1;
     }
 
-pub returns-in-Accepted : goal.returns-in-Accepted
-returns-in-Accepted c = let g = sym c.read.ensures.answers ∙ c.in-Accepted.is in
+pub returns-in-Ok : goal.returns-in-Ok
+returns-in-Ok c = let g = sym c.read.ensures.answers ∙ c.in-Ok.is in
     let m = answered (dialect house) c.args.input.now _ g in
     let r = report_written (dialect house) c.args.input.now c.args.text.now c.if-text-lt-TEXT_ROOM.false _ _ _ (accepted_lines (dialect house) c.args.input.now c.if-input-gt-INPUT_MOST.false _ _ m) c.put_reading.ensures.size c.put_reading.ensures.writes in record {
       answers = r.0;
