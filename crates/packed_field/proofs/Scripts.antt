@@ -7,11 +7,13 @@ use native.Mathlib.Omega.{arith}
 use lib.Dec.{eqb}
 use lib.ListN.{length}
 use borrow.Author.Tests.{eq-eqb, eqb-true}
+use Rattle.std.specs.Result.{is_ok}
 use Rattle.octets.specs.Lists.{all, placed}
 use Rattle.octets.specs.Numbers.{is_digit, are_digits}
-use Rattle.octets.proofs.Cases.{both_left, both_right}
-use Rattle.refusal.specs.Refusals.{converted_into}
-use Rattle.encoding_bcd.specs.Bcd.{packed, encode_fault, decode_fault}
+use Rattle.octets.proofs.Cases.{both_left, both_right, false_true}
+use Rattle.refusal.specs.Refusals.{good, converted_into}
+use Rattle.refusal.proofs.Tests.{by_test}
+use Rattle.encoding_bcd.specs.Bcd.{encode_fault, decode_fault}
 use Rattle.encoding_bcd.proofs.Packing.{packed_length}
 use Rattle.encoding_bcd.proofs.Unpacking.{unpacked_length}
 use Rattle.encoding_bcd.proofs.Faults.{decode_clean}
@@ -29,8 +31,8 @@ module _ (n : ℕ) (s : List ℕ) where
   unfolding are_digits
   plain_digits t = both_right (eqb (length s) n) (all is_digit s) t
 
-  unfaulted : eqb (decode_fault n s) 0 ≡ true → decode_fault n s ≡ 0
-  unfaulted t = eqb-true (decode_fault n s) 0 t
+  unfaulted : is_ok (decode_fault n s) ≡ true → decode_fault n s ≡ good
+  unfaulted t = by_test (decode_fault n s) (λ h. h) (λ c h. absurd (false_true (rw h at t)))
 
 -- bytes that are n digits
 pub spelt_long : (S : Script) (n : ℕ) (s : List ℕ) → is_spelt S n s ≡ true → length s ≡ size_of S n
@@ -62,7 +64,7 @@ spelling_long Packed d = packed_length d
 pub spelling_good : (S : Script) (d : List ℕ) → all is_digit d ≡ true → is_spelt S (length d) (spelt_in S d) ≡ true
 unfolding is_spelt spelt_in are_digits
 spelling_good Plain d t = rw (eq-eqb (length d) (length d) refl) t
-spelling_good Packed d t = eq-eqb (decode_fault (length d) (packed d)) 0 (packed_decodes d t)
+spelling_good Packed d t = rw (packed_decodes d t)
 
 pub spelling_back : (S : Script) (d : List ℕ) → all is_digit d ≡ true → digits_of S (length d) (spelt_in S d) ≡ d
 unfolding digits_of spelt_in

@@ -8,7 +8,7 @@
 --   length_fault S      == the refusal of length digits that are none
 --   digits_fault S      == the refusal of a content of class n that is no digits
 --   content_fault S c   == the refusal of a content that is none of its class
---   Found a n k j       == the length digits take a bytes, the content has n digits or bytes and takes the next k, and in the other script both
+--   item_at a n k j     == the length digits take a bytes, the content has n digits or bytes and takes the next k, and in the other script both
 --                          take j
 --   place_by S w m c s  == where a field with w length digits, length or greatest length m, and class c stands at the front of s; no byte of
 --                         the content is asked about
@@ -18,10 +18,11 @@
 --   judge_item S t f s  == that of field f of the table t
 --
 -- Assumes nothing: these are definitions.
-use Rattle.std.specs.Prelude.{ℕ, ◌+◌, ◌-◌, Bool, true, false, cond, List, ltb, length, take, drop}
+use Rattle.std.specs.Prelude.{ℕ, ◌+◌, ◌-◌, Bool, true, false, cond, List, ltb, length, take, drop, Result, Ok, Err}
 use Rattle.octets.specs.Lists.{either, all}
 use Rattle.octets.specs.Numbers.{is_ascii}
 use Rattle.refusal.specs.Numbers.{past_the_end, length_not_digits, length_over_table, text_not_ascii, not_digits, not_bcd}
+use Rattle.refusal.specs.declared.Cause.{Cause}
 use Rattle.field_table.specs.Table.{Table, is_binary}
 use Rattle.field_table.specs.declared.Class.{Class}
 use Rattle.field_table.specs.declared.Class.TheVariants.{N, A, An, Ans, Ns, Z, Xn, B}
@@ -29,7 +30,6 @@ use Rattle.field_read.specs.Items.{length_of}
 use Rattle.packed_field.specs.declared.Script.{Script}
 use Rattle.packed_field.specs.declared.Script.TheVariants.{Plain, Packed}
 use Rattle.packed_field.specs.declared.Item.{Item}
-use Rattle.packed_field.specs.declared.Item.TheVariants.{Found, Refused}
 use Rattle.packed_field.specs.Scripts.{other, size_of, is_spelt, digits_of}
 
 -- docs/DECISIONS.md P3: x+n, ns and z are not n
@@ -49,35 +49,38 @@ content_size S c n = cond (is_numeric c) (size_of S n) n
 unfoldable pub is_content : Script → Class → ℕ → List ℕ → Bool
 is_content S c n s = cond (is_numeric c) (is_spelt S n s) (either (is_binary c) (all is_ascii s))
 
-abbrev pub length_fault : Script → ℕ
+abbrev pub length_fault : Script → Cause
 length_fault Plain = length_not_digits
 length_fault Packed = not_bcd
 
-abbrev pub digits_fault : Script → ℕ
+abbrev pub digits_fault : Script → Cause
 digits_fault Plain = not_digits
 digits_fault Packed = not_bcd
 
-unfoldable pub content_fault : Script → Class → ℕ
+unfoldable pub content_fault : Script → Class → Cause
 content_fault S c = cond (is_numeric c) (digits_fault S) text_not_ascii
 
-unfoldable pub place_sized : Script → ℕ → ℕ → ℕ → Class → List ℕ → Item
+abbrev pub item_at : ℕ → ℕ → ℕ → ℕ → Item
+item_at a n k j = record { start = a; count = n; size = k; carried = j }
+
+unfoldable pub place_sized : Script → ℕ → ℕ → ℕ → Class → List ℕ → Result Item Cause
 place_sized S w n m c s =
-    cond (ltb m n) (Refused length_over_table)
-    (cond (ltb (length s - size_of S w) (content_size S c n)) (Refused past_the_end)
-    (Found (size_of S w) n (content_size S c n) (size_of (other S) w + content_size (other S) c n)))
+    cond (ltb m n) (Err length_over_table)
+    (cond (ltb (length s - size_of S w) (content_size S c n)) (Err past_the_end)
+    (Ok (item_at (size_of S w) n (content_size S c n) (size_of (other S) w + content_size (other S) c n))))
 
-unfoldable pub place_by : Script → ℕ → ℕ → Class → List ℕ → Item
+unfoldable pub place_by : Script → ℕ → ℕ → Class → List ℕ → Result Item Cause
 place_by S w m c s =
-    cond (ltb (length s) (size_of S w)) (Refused past_the_end)
+    cond (ltb (length s) (size_of S w)) (Err past_the_end)
     (cond (is_spelt S w (take (size_of S w) s)) (place_sized S w (length_of w m (digits_of S w (take (size_of S w) s))) m c s)
-    (Refused (length_fault S)))
+    (Err (length_fault S)))
 
-unfoldable pub place_item : Script → Table → ℕ → List ℕ → Item
+unfoldable pub place_item : Script → Table → ℕ → List ℕ → Result Item Cause
 place_item S t f s = place_by S (t.width f) (t.most f) (t.class f) s
 
-abbrev pub judged_as : Script → Class → List ℕ → Item → Item
-judged_as S c s (Refused n) = Refused n
-judged_as S c s (Found a n k j) = cond (is_content S c n (take k (drop a s))) (Found a n k j) (Refused (content_fault S c))
+abbrev pub judged_as : Script → Class → List ℕ → Result Item Cause → Result Item Cause
+judged_as S c s (Err n) = Err n
+judged_as S c s (Ok i) = cond (is_content S c i.count (take i.size (drop i.start s))) (Ok i) (Err (content_fault S c))
 
-unfoldable pub judge_item : Script → Table → ℕ → List ℕ → Item
+unfoldable pub judge_item : Script → Table → ℕ → List ℕ → Result Item Cause
 judge_item S t f s = judged_as S (t.class f) s (place_item S t f s)

@@ -12,7 +12,8 @@
 --                           fit. In the plain script n is not asked
 --
 -- Assumes nothing: these are definitions.
-use Rattle.std.specs.Prelude.{ℕ, Bool, List, eqb}
+use Rattle.std.specs.Prelude.{ℕ, Bool, List}
+use Rattle.std.specs.Result.{is_ok}
 use Rattle.octets.specs.Numbers.{is_digit, are_digits}
 use Rattle.refusal.specs.Refusals.{converted_into}
 use Rattle.encoding_bcd.specs.Bcd.{bytes_of, packed, unpacked, is_bcd, encode_fault, decode_fault}
@@ -29,7 +30,7 @@ size_of Packed n = bytes_of n
 
 unfoldable pub is_spelt : Script → ℕ → List ℕ → Bool
 is_spelt Plain n s = are_digits n s
-is_spelt Packed n s = eqb (decode_fault n s) 0
+is_spelt Packed n s = is_ok (decode_fault n s)
 
 unfoldable pub is_part : Script → ℕ → Bool
 is_part Plain x = is_digit x

@@ -9,6 +9,7 @@ ghost use Rattle.packed_field.specs.Scripts.{size_of, is_spelt, is_part, digits_
 ghost use Rattle.packed_field.specs.Items.{is_numeric, content_size, is_content, length_fault, digits_fault, content_fault, place_by, place_item, judge_item};
 
 use field_table::Class;
+use refusal::Cause;
 
 // How the digits of an MTI, of a length and of a content of class n are spelt: plain, a byte each, or packed, in BCD. Nothing else of a
 // message differs.
@@ -19,16 +20,13 @@ pub enum Script {
 }
 
 // A field at the front of the rest: its length digits take start bytes, its content has count digits or bytes and takes size bytes behind
-// them, and in the other script the whole field takes carried bytes. Or the number of the refusal.
+// them, and in the other script the whole field takes carried bytes.
 #[derive(Clone, Copy)]
-pub enum Item {
-    Found {
-        start: usize,
-        count: usize,
-        size: usize,
-        carried: usize,
-    },
-    Refused(u8),
+pub struct Item {
+    pub start: usize,
+    pub count: usize,
+    pub size: usize,
+    pub carried: usize,
 }
 
 // The other script.
@@ -42,6 +40,7 @@ pub fn other_script(script: Script) -> Script
 }
 
 // How many bytes so many digits take.
+#[tactic(auto, unfolding(crate::specs::Scripts::size_of))]
 pub fn size_of(script: Script, digits: usize) -> usize
     ensures { result ≡ size_of script digits }
 {
@@ -65,6 +64,7 @@ pub fn lead_parts(s: &[u8], script: Script) -> usize
     i
 }
 
+#[tactic(auto, unfolding(crate::specs::Scripts::is_part))]
 fn is_part(b: u8, script: Script) -> bool
     ensures { result ≡ is_part script b }
 {
@@ -76,59 +76,43 @@ fn is_part(b: u8, script: Script) -> bool
 
 // Writes the digits of src in the other script to the front of out; leaves it where the BCD conversion refuses src, or they do not fit. Of
 // plain digits the count is not asked.
+#[tactic(auto, unfolding(crate::specs::Scripts::carried_into))]
 pub fn carry(src: &[u8], script: Script, digits: usize, out: &mut [u8])
     ensures { out.new ≡ carried_into script digits src.now out.old }
 {
-    match script {
-        Script::Plain => {
-            encoding_bcd::encode(src, out);
-        }
-        Script::Packed => {
-            encoding_bcd::decode(src, digits, out);
-        }
-    }
+    let _ = match script {
+        Script::Plain => encoding_bcd::encode(src, out),
+        Script::Packed => encoding_bcd::decode(src, digits, out),
+    };
 }
 
 // Whether src is so many digits.
+#[tactic(auto, unfolding(crate::specs::Scripts::is_spelt))]
 fn is_spelt(src: &[u8], script: Script, digits: usize) -> bool
     ensures { result ≡ is_spelt script digits src.now }
 {
     match script {
         Script::Plain => octets::are_digits(digits, src),
-        Script::Packed => encoding_bcd::decode_fault(src, digits) == 0,
+        Script::Packed => encoding_bcd::decode_fault(src, digits).is_ok(),
     }
 }
 
 // Reads field number at the front of rest by the table lent, its content judged: 5, 6 or 22, 7, 5, then 21, 22 or 8. The caller adds field
 // and position.
-pub fn judge_item(rest: &[u8], number: usize, script: Script, table: &[u16]) -> Item
+pub fn judge_item(rest: &[u8], number: usize, script: Script, table: &[u16]) -> Result<Item, Cause>
     ensures { result ≡ judge_item script (decoded table.now) number rest.now }
 {
     let class = field_table::class_in(table, number);
-    match place_item(rest, number, script, table) {
-        Item::Refused(fault) => Item::Refused(fault),
-        Item::Found {
-            start,
-            count,
-            size,
-            carried,
-        } => {
-            let end = start + size;
-            if !is_content(&rest[start..end], script, class, count) {
-                return Item::Refused(content_fault(script, class));
-            }
-            Item::Found {
-                start,
-                count,
-                size,
-                carried,
-            }
-        }
+    let item = place_item(rest, number, script, table)?;
+    let end = item.start + item.size;
+    if !is_content(&rest[item.start..end], script, class, item.count) {
+        return Err(content_fault(script, class));
     }
+    Ok(item)
 }
 
 // The same, but no byte of the content is asked about.
-pub fn place_item(rest: &[u8], number: usize, script: Script, table: &[u16]) -> Item
+pub fn place_item(rest: &[u8], number: usize, script: Script, table: &[u16]) -> Result<Item, Cause>
     ensures { result ≡ place_item script (decoded table.now) number rest.now }
 {
     let width = field_table::width_in(table, number);
@@ -138,35 +122,41 @@ pub fn place_item(rest: &[u8], number: usize, script: Script, table: &[u16]) -> 
 }
 
 // Finds a field with that many length digits, that length or greatest length, and that class.
-fn place_by(rest: &[u8], script: Script, width: usize, most: usize, class: Class) -> Item
+fn place_by(
+    rest: &[u8],
+    script: Script,
+    width: usize,
+    most: usize,
+    class: Class,
+) -> Result<Item, Cause>
     requires width_bound { width ≤ 3 }
     requires most_bound { most ≤ 1023 }
     ensures { result ≡ place_by script width most class rest.now }
 {
     let start = size_of(script, width);
     if rest.len() < start {
-        return Item::Refused(refusal::PAST_THE_END);
+        return Err(Cause::PastTheEnd);
     }
     let digits = &rest[..start];
     if !is_spelt(digits, script, width) {
-        return Item::Refused(length_fault(script));
+        return Err(length_fault(script));
     }
     let count = content_count(digits, script, width, most);
     if most < count {
-        return Item::Refused(refusal::LENGTH_OVER_TABLE);
+        return Err(Cause::LengthOverTable);
     }
     let size = content_size(script, class, count);
     if rest.len() - start < size {
-        return Item::Refused(refusal::PAST_THE_END);
+        return Err(Cause::PastTheEnd);
     }
     let across = other_script(script);
     let carried = size_of(across, width) + content_size(across, class, count);
-    Item::Found {
+    Ok(Item {
         start,
         count,
         size,
         carried,
-    }
+    })
 }
 
 // How many digits or bytes the content has: as the table says where there are no length digits, else as they say.
@@ -182,13 +172,14 @@ fn content_count(digits: &[u8], script: Script, width: usize, most: usize) -> us
         Script::Plain => octets::decimal_of(digits),
         Script::Packed => {
             let mut plain = [0u8; 3];
-            encoding_bcd::decode(digits, width, &mut plain);
-            octets::decimal_of(&plain[0..width])
+            carry(digits, script, width, &mut plain);
+            octets::decimal_of(&plain[..width])
         }
     }
 }
 
 // How many bytes a content of count digits or bytes takes.
+#[tactic(auto, unfolding(crate::specs::Items::content_size))]
 fn content_size(script: Script, class: Class, count: usize) -> usize
     ensures { result ≡ content_size script class count }
 {
@@ -199,16 +190,14 @@ fn content_size(script: Script, class: Class, count: usize) -> usize
 }
 
 // Whether s is a content of that class, count digits long where they are digits.
+#[tactic(auto, unfolding(crate::specs::Items::is_content))]
 fn is_content(s: &[u8], script: Script, class: Class, count: usize) -> bool
     ensures { result ≡ is_content script class count s.now }
 {
     if is_numeric(class) {
         return is_spelt(s, script, count);
     }
-    if field_table::is_binary(class) {
-        return true;
-    }
-    octets::all_between(s, 0, octets::LAST_ASCII)
+    field_table::is_binary(class) || octets::all_between(s, 0, octets::LAST_ASCII)
 }
 
 // Whether contents of that class are digits: class n and no other.
@@ -227,29 +216,30 @@ pub fn is_numeric(class: Class) -> bool
     }
 }
 
-fn length_fault(script: Script) -> u8
+fn length_fault(script: Script) -> Cause
     ensures { result ≡ length_fault script }
 {
     match script {
-        Script::Plain => refusal::LENGTH_NOT_DIGITS,
-        Script::Packed => refusal::NOT_BCD,
+        Script::Plain => Cause::LengthNotDigits,
+        Script::Packed => Cause::NotBcd,
     }
 }
 
-fn content_fault(script: Script, class: Class) -> u8
+#[tactic(auto, unfolding(crate::specs::Items::content_fault))]
+fn content_fault(script: Script, class: Class) -> Cause
     ensures { result ≡ content_fault script class }
 {
     if is_numeric(class) {
         return digits_fault(script);
     }
-    refusal::TEXT_NOT_ASCII
+    Cause::TextNotAscii
 }
 
-fn digits_fault(script: Script) -> u8
+fn digits_fault(script: Script) -> Cause
     ensures { result ≡ digits_fault script }
 {
     match script {
-        Script::Plain => refusal::NOT_DIGITS,
-        Script::Packed => refusal::NOT_BCD,
+        Script::Plain => Cause::NotDigits,
+        Script::Packed => Cause::NotBcd,
     }
 }
