@@ -14,7 +14,8 @@
 -- Assumes nothing: these are definitions; proofs/Worked.antt shows that they agree.
 use Rattle.std.specs.Prelude.{ℕ, ◌-◌, List, [], ◌∷◌, ◌++◌, map, replicate, length}
 use Rattle.refusal.specs.Numbers.{message_too_short, bitmap_incomplete, length_not_digits, length_over_table, pan_fails}
-use Rattle.refusal.specs.Refusals.{Told, tell, plain, refusal, converted, converted_into, told, checked, told_checked}
+use Rattle.refusal.specs.declared.Cause.{Cause}
+use Rattle.refusal.specs.Refusals.{Told, tell, tell_refused, plain, refusal, converted, converted_into, told, checked, told_checked}
 use Rattle.encoding_bcd.specs.Bcd.{packed, unpacked, encode_fault as pack_fault, decode_fault as unpack_fault}
 use Rattle.encoding_ebcdic.specs.Ebcdic.{ebcdic_of, encode_fault as translate_fault}
 use Rattle.field_table.specs.House.{house}
@@ -54,7 +55,7 @@ abbrev noted : List ℕ → List ℕ
 noted r = filled r (room - length r)
 
 abbrev done : ℕ → Told
-done n = tell (plain 0) (n ∷ [])
+done n = tell (n ∷ [])
 
 abbrev head : ℕ → List ℕ
 head m = 1 ∷ (mti ++ (m ∷ []))
@@ -63,10 +64,10 @@ abbrev used : ℕ → List ℕ
 used n = 4 ∷ 0 ∷ 0 ∷ 0 ∷ n ∷ []
 
 abbrev accepted : ℕ → ℕ → Told
-accepted u m = tell (plain 0) (u ∷ m ∷ [])
+accepted u m = tell (u ∷ m ∷ [])
 
-abbrev refused : ℕ → ℕ → ℕ → Told
-refused n f p = tell (refusal n f p) (0 ∷ 0 ∷ [])
+abbrev refused : Cause → ℕ → ℕ → Told
+refused c f p = tell_refused (refusal c f p) (0 ∷ 0 ∷ [])
 
 unfoldable pub cases : List Case
 cases =
@@ -98,8 +99,8 @@ cases =
     packing (0x31 ∷ 0x32 ∷ 0x33 ∷ []) (done 2) (filled (0x01 ∷ 0x23 ∷ []) 2) ∷
     unpacking 3 (0x01 ∷ 0x23 ∷ []) (done 3) (filled (0x31 ∷ 0x32 ∷ 0x33 ∷ []) 1) ∷
     -- 11: 4111111111111111 passes, 4111111111111112 doesn't
-    carrying (0x34 ∷ replicate 15 0x31) (tell (plain 0) []) ∷
-    carrying (0x34 ∷ (replicate 14 0x31 ++ (0x32 ∷ []))) (tell (plain pan_fails) []) ∷
+    carrying (0x34 ∷ replicate 15 0x31) (tell []) ∷
+    carrying (0x34 ∷ (replicate 14 0x31 ++ (0x32 ∷ []))) (tell_refused (plain pan_fails) []) ∷
     -- 12: `A1` is C1 F1 in EBCDIC
     translating (0x41 ∷ 0x31 ∷ []) (done 2) (filled (0xC1 ∷ 0xF1 ∷ []) 2) ∷
     []
