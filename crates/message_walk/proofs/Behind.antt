@@ -7,7 +7,7 @@ use native.Mathlib.Omega.{arith}
 use native.Mathlib.Nat.{le-mul_of_pos_right, mul_comm}
 use lib.ListN.{length, drop, length-append}
 use lib.Seq.{drop_at}
-use borrow.Author.Tests.{eq-eqb}
+use Rattle.std.specs.Prelude.{Ok}
 use Rattle.octets.specs.Lists.{all}
 use Rattle.octets.specs.Numbers.{is_digit}
 use Rattle.message_language.specs.Language.{Entry, Reading}
@@ -17,7 +17,7 @@ use Rattle.message_notes.proofs.Sizes.{field_long, notes_long}
 use Rattle.message_notes.proofs.Spelling.{Fits, AllFit, mark_back}
 use Rattle.message_notes.proofs.Reading.{field_back, end_back}
 use Rattle.message_walk.specs.declared.Judged.TheVariants.{Passed, End}
-use Rattle.message_walk.specs.Walk.{Fault, head_number, judged_field, judged, passed, ending, walked, entries_in}
+use Rattle.message_walk.specs.Walk.{Fault, judged_field, judged, passed, ending, walked, entries_in}
 use Rattle.message_walk.proofs.Steps.{passes, by_field, judged_end, judged_note, ending_bad, ending_end, ending_more, passed_bad, passed_end, passed_more}
 use Rattle.message_walk.proofs.Written.{from_head, count_in_lem, head_good}
 
@@ -30,8 +30,8 @@ module _ (F : Form) (apart : F.kind ≡ end_kind → ⊥) (marks : (f : ℕ) →
   same_end : (k j last at : ℕ) → Same [] (suc k) (suc j) last at
   unfolding field_notes
   same_end k j last at =
-      let a : judged F p m last (end_note u ++ y) ≡ End u = judged_end F p m last (end_note u ++ y) u (end_back F u y apart small) in
-      let b : judged F p m last (end_note u ++ z) ≡ End u = judged_end F p m last (end_note u ++ z) u (end_back F u z apart small) in
+      let a : judged F p m last (end_note u ++ y) ≡ Ok (End u) = judged_end F p m last (end_note u ++ y) u (end_back F u y apart small) in
+      let b : judged F p m last (end_note u ++ z) ≡ Ok (End u) = judged_end F p m last (end_note u ++ z) u (end_back F u z apart small) in
       record {
         end = ending_end F p m k last at (end_note u ++ y) u a ∙ sym (ending_end F p m j last at (end_note u ++ z) u b);
         entries = passed_end F p m k last (end_note u ++ y) u a ∙ sym (passed_end F p m j last (end_note u ++ z) u b);
@@ -52,12 +52,12 @@ module _ (F : Form) (apart : F.kind ≡ end_kind → ⊥) (marks : (f : ℕ) →
       let c = judged_first last e v f in
       let d = judged_first last e x f in
       by_field true p m last e.number e.offset e.size
-      (λ n g q. record {
-        end = rw (a, b) (ending_bad F p m k last at (field_note F e ++ v) n g (c ∙ q) ∙ sym (ending_bad F p m j last at (field_note F e ++ x) n g (d ∙ q)));
-        entries = rw (a, b) (passed_bad F p m k last (field_note F e ++ v) n g (c ∙ q) ∙ sym (passed_bad F p m j last (field_note F e ++ x) n g (d ∙ q)));
+      (λ w' q. record {
+        end = rw (a, b) (ending_bad F p m k last at (field_note F e ++ v) w' (c ∙ q) ∙ sym (ending_bad F p m j last at (field_note F e ++ x) w' (d ∙ q)));
+        entries = rw (a, b) (passed_bad F p m k last (field_note F e ++ v) w' (c ∙ q) ∙ sym (passed_bad F p m j last (field_note F e ++ x) w' (d ∙ q)));
       })
       (λ o g.
-      let q : judged_field true p m last e.number e.offset e.size ≡ Passed e.number e.offset e.size = passes true p m last e.number e.offset e.size refl g in
+      let q : judged_field true p m last e.number e.offset e.size ≡ Ok (Passed e.number e.offset e.size) = passes true p m last e.number e.offset e.size refl g in
       let r : drop (note_size F) (field_note F e ++ v) ≡ v = drop_at (field_note F e) v (note_size F) (field_long F e) in
       let s : drop (note_size F) (field_note F e ++ x) ≡ x = drop_at (field_note F e) x (note_size F) (field_long F e) in
       record {
@@ -97,7 +97,7 @@ module _ (d : Dialect) (apart : d.form.kind ≡ end_kind → ⊥) (marks : (f : 
   walked_from : (z : List ℕ) → walked d p (notes z) ≡ ending F p r.count (length (notes z)) 0 head_size (behind z)
   unfolding walked
   walked_from z =
-      rw (eq-eqb (head_number d.most (notes z)) 0 (head_good F r u z four digit least three d.most few), count_in_lem F r u z four digit least three, from_head F r u z four digit least three)
+      rw (walked, (head_good F r u z four digit least three d.most few), count_in_lem F r u z four digit least three, from_head F r u z four digit least three)
 
   entries_from : (z : List ℕ) → entries_in d p (notes z) ≡ passed F p r.count (length (notes z)) 0 (behind z)
   unfolding entries_in

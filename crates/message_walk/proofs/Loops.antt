@@ -5,23 +5,25 @@ use mathlib.Core.List.{List, [], ◌∷◌}
 use native.Mathlib.Omega.{arith}
 use lib.ListN.{length, take, drop, length-drop}
 use lib.Seq.{drop-drop}
+use Rattle.std.specs.Prelude.{Result, Ok, Err}
 use Rattle.octets.proofs.Parts.{to_end}
 use Rattle.refusal.specs.Refusals.{refusal}
+use Rattle.refusal.specs.declared.Refusal.{Refusal}
 use Rattle.message_language.specs.Language.{Entry, entry}
 use Rattle.message_notes.specs.Dialect.{Form, note_size, head_size}
 use Rattle.message_notes.specs.Notes.{count_in, note_at}
 use Rattle.message_notes.specs.declared.Note.{Note}
 use Rattle.message_notes.specs.declared.Note.TheVariants.{Field as FieldNote, End as EndNote, Malformed}
 use Rattle.message_walk.specs.declared.Judged.{Judged}
-use Rattle.message_walk.specs.declared.Judged.TheVariants.{Passed, End, Refused}
-use Rattle.message_walk.specs.declared.Walked.{Walked}
-use Rattle.message_walk.specs.declared.Walked.TheVariants.{Ended, Refused as WalkRefused}
-use Rattle.message_walk.specs.Walk.{Fault, judged, passed, ending, listed_from, listed_in}
+use Rattle.message_walk.specs.declared.Judged.TheVariants.{Passed, End}
+use Rattle.message_walk.specs.declared.Flaw.{Flaw}
+use Rattle.message_walk.specs.declared.Ended.{Ended}
+use Rattle.message_walk.specs.Walk.{ended, Fault, judged, passed, ending, listed_from, listed_in}
 use Rattle.message_walk.proofs.Steps.{Good, passing, note_whole, ending_bad, ending_end, ending_more, passed_end, passed_more, listed_malformed, listed_end, listed_more}
 
 -- A loop that judges: it has come to the place `at` and the number `last`, the whole walk ends as the rest of it does, and P holds of the
 -- entries still to come.
-pub record Walking (F : Form) (p : Fault) (n : List ℕ) (w : Walked) (P : List Entry → Type 0) (at last : ℕ) : Type 0 where
+pub record Walking (F : Form) (p : Fault) (n : List ℕ) (w : Result Ended Refusal) (P : List Entry → Type 0) (at last : ℕ) : Type 0 where
   pub fuel : ℕ
   pub inside : at ≤ length n
   pub left : length n < fuel + at
@@ -34,18 +36,18 @@ pub walking_first : {F : Form} {p : Fault} {n : List ℕ} {P : List Entry → Ty
 walking_first {F} {p} {n} h x = record { fuel = length n; inside = h; left = omega arith; ends = refl; holds = x }
 
 -- A turn of it: the note there was judged to be o.
-pub record Turn (F : Form) (p : Fault) (n : List ℕ) (w : Walked) (P : List Entry → Type 0) (at last : ℕ) (o : Judged) : Type 0 where
+pub record Turn (F : Form) (p : Fault) (n : List ℕ) (w : Result Ended Refusal) (P : List Entry → Type 0) (at last : ℕ) (o : Result Judged Flaw) : Type 0 where
   pub loop : Walking F p n w P at last
   pub judging : o ≡ judged F p (count_in n) last (take (length n - at) (drop at n))
 
 pub turn_of :
-    {F : Form} {p : Fault} {n : List ℕ} {w : Walked} {P : List Entry → Type 0} {at last : ℕ} {o : Judged} →
+    {F : Form} {p : Fault} {n : List ℕ} {w : Result Ended Refusal} {P : List Entry → Type 0} {at last : ℕ} {o : Result Judged Flaw} →
     Walking F p n w P at last →
     o ≡ judged F p (count_in n) last (take (length n - at) (drop at n)) →
     Turn F p n w P at last o
 turn_of loop judging = record { loop = loop; judging = judging }
 
-module _ {F : Form} {p : Fault} {n : List ℕ} {w : Walked} {P : List Entry → Type 0} {at last : ℕ} {o : Judged} (c : Turn F p n w P at last o) where
+module _ {F : Form} {p : Fault} {n : List ℕ} {w : Result Ended Refusal} {P : List Entry → Type 0} {at last : ℕ} {o : Result Judged Flaw} (c : Turn F p n w P at last o) where
   abbrev k : ℕ
   k = c.loop.fuel - 1
 
@@ -64,16 +66,16 @@ module _ {F : Form} {p : Fault} {n : List ℕ} {w : Walked} {P : List Entry → 
   holds_here : P (passed F p m (suc k) last (drop at n))
   holds_here = subst (λ (q : ℕ). P (passed F p m q last (drop at n))) some c.loop.holds
 
-  pub turn_refused : {x f : ℕ} → o ≡ Refused x f → WalkRefused (refusal x f at) ≡ w
-  turn_refused {x} {f} is = sym (ends_here ∙ ending_bad F p m k last at (drop at n) x f (here ∙ is))
+  pub turn_refused : {x : Flaw} → o ≡ Err x → Err (refusal x.cause x.field at) ≡ w
+  turn_refused {x} is = sym (ends_here ∙ ending_bad F p m k last at (drop at n) x (here ∙ is))
 
-  pub turn_end : {u : ℕ} → o ≡ End u → Ended at u ≡ w
+  pub turn_end : {u : ℕ} → o ≡ Ok (End u) → Ok (ended at u) ≡ w
   turn_end {u} is = sym (ends_here ∙ ending_end F p m k last at (drop at n) u (here ∙ is))
 
-  pub turn_done : {u : ℕ} → o ≡ End u → P []
+  pub turn_done : {u : ℕ} → o ≡ Ok (End u) → P []
   turn_done {u} is = subst P (passed_end F p m k last (drop at n) u (here ∙ is)) holds_here
 
-  module _ {f a z : ℕ} (is : o ≡ Passed f a z) where
+  module _ {f a z : ℕ} (is : o ≡ Ok (Passed f a z)) where
     pub turn_room : at + note_size F ≤ length n
     turn_room = omega (arith, note_whole F (drop at n) f a z (passing F p m last (drop at n) f a z (here ∙ is)).note, length-drop at n, c.loop.inside)
 

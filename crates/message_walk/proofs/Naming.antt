@@ -24,7 +24,7 @@ unfolding AllGood passed
 all_good F p m zero last s = tt
 all_good F p m (suc k) last s =
     by_judged (judged F p m last s)
-    (λ x f e. rw (passed_bad F p m k last s x f e) tt)
+    (λ x e. rw (passed_bad F p m k last s x e) tt)
     (λ u e. rw (passed_end F p m k last s u e) tt)
     (λ f a c e. rw (passed_more F p m k last s f a c e) ((last, (passing F p m last s f a c e).good), all_good F p m k f (drop (note_size F) s)))
 

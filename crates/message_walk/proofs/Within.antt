@@ -9,31 +9,33 @@ use lib.Seq.{length-take-le}
 use borrow.Author.Tests.{le-leb, leb-true}
 use Rattle.octets.proofs.Cases.{by_bool}
 use Rattle.refusal.specs.Numbers.{outside_values}
+use Rattle.refusal.specs.Refusals.{Test, good}
+use Rattle.refusal.proofs.Tests.{bad_good}
 use Rattle.message_language.specs.Language.{Entry}
 use Rattle.message_contents.specs.Contents.{content_of}
 use Rattle.message_walk.specs.Faults.{within}
 
-module _ (v : List ℕ) (q : ℕ → List ℕ → ℕ) (e : Entry) where
+module _ (v : List ℕ) (q : ℕ → List ℕ → Test) (e : Entry) where
   pub record Inside : Type 0 where
     pub place : e.offset + e.size ≤ length v
-    pub fault : q e.number (content_of v e.offset e.size) ≡ 0
+    pub fault : q e.number (content_of v e.offset e.size) ≡ good
     pub sized : length (content_of v e.offset e.size) ≡ e.size
 
-  pub is_inside : within v q e ≡ 0 → Inside
+  pub is_inside : within v q e ≡ good → Inside
   unfolding within
   is_inside h =
       by_bool (leb (e.offset + e.size) (length v))
       (λ y.
       let p = leb-true (e.offset + e.size) (length v) y in
       record { place = p; fault = rw y at h; sized = length-take-le e.size (drop e.offset v) (omega (arith, length-drop e.offset v, p)) })
-      (λ y. let z : ◌≡◌ {A = ℕ} outside_values 0 = rw y at h in absurd (omega arith))
+      (λ y. bad_good outside_values (rw y at h))
 
-  pub inside_passes : e.offset + e.size ≤ length v → q e.number (content_of v e.offset e.size) ≡ 0 → within v q e ≡ 0
+  pub inside_passes : e.offset + e.size ≤ length v → q e.number (content_of v e.offset e.size) ≡ good → within v q e ≡ good
   unfolding within
   inside_passes h z = rw (le-leb (e.offset + e.size) (length v) h) z
 
 -- what asks less of contents finds no more
-pub within_weaker : (v : List ℕ) (p q : ℕ → List ℕ → ℕ) → ((f : ℕ) (c : List ℕ) → p f c ≡ 0 → q f c ≡ 0) → (e : Entry) → within v p e ≡ 0 → within v q e ≡ 0
+pub within_weaker : (v : List ℕ) (p q : ℕ → List ℕ → Test) → ((f : ℕ) (c : List ℕ) → p f c ≡ good → q f c ≡ good) → (e : Entry) → within v p e ≡ good → within v q e ≡ good
 within_weaker v p q weaker e h =
     let i = is_inside v p e h in
     inside_passes v q e i.place (weaker e.number (content_of v e.offset e.size) i.fault)

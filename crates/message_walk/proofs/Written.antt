@@ -11,6 +11,8 @@ use borrow.Author.Tests.{eq-eqb, le-leb}
 use Rattle.octets.specs.Lists.{all}
 use Rattle.octets.specs.Numbers.{is_digit, big_endian, digits}
 use Rattle.octets.proofs.Lists.{is_between}
+use Rattle.std.specs.Prelude.{Ok}
+use Rattle.refusal.specs.Refusals.{good}
 use Rattle.message_language.specs.Language.{Entry, entry, Reading}
 use Rattle.message_notes.specs.Dialect.{Form, note_size, head_kind, head_size, end_size, end_kind, Dialect}
 use Rattle.message_notes.specs.Notes.{head_note, field_note, end_note, field_notes, notes_of, is_head, mti_in, count_in}
@@ -18,8 +20,7 @@ use Rattle.message_notes.proofs.Sizes.{head_long, field_long, notes_long}
 use Rattle.message_notes.proofs.Spelling.{Fits, AllFit, mark_back}
 use Rattle.message_notes.proofs.Reading.{field_back, end_back}
 use Rattle.message_walk.specs.declared.Judged.TheVariants.{Passed, End}
-use Rattle.message_walk.specs.declared.Walked.TheVariants.{Ended}
-use Rattle.message_walk.specs.Walk.{Fault, head_number, judged, passed, ending, walked, entries_in}
+use Rattle.message_walk.specs.Walk.{ended, Fault, head_number, judged, passed, ending, walked, entries_in}
 use Rattle.message_walk.proofs.Steps.{by_judged, Good, passing, is_passing, judged_end, ending_end, ending_more, passed_bad, passed_end, passed_more}
 
 -- entries that pass one after the other, the first above last
@@ -33,7 +34,7 @@ unfolding passed
 walkable F p m zero last s = none
 walkable F p m (suc k) last s =
     by_judged (judged F p m last s)
-    (λ x f e. rw (passed_bad F p m k last s x f e) none)
+    (λ x e. rw (passed_bad F p m k last s x e) none)
     (λ u e. rw (passed_end F p m k last s u e) none)
     (λ f a c e. rw (passed_more F p m k last s f a c e) (more (passing F p m last s f a c e).good (walkable F p m k f (drop (note_size F) s))))
 
@@ -48,15 +49,15 @@ module _ (F : Form) (apart : F.kind ≡ end_kind → ⊥) (marks : (f : ℕ) →
   -- what is walked, and how it ends
   pub record Walks (es : List Entry) (k last at : ℕ) : Type 0 where
     pub all : passed F p m k last (field_notes F es ++ tail) ≡ es
-    pub end : ending F p m k last at (field_notes F es ++ tail) ≡ Ended (at + note_size F * length es) u
+    pub end : ending F p m k last at (field_notes F es ++ tail) ≡ Ok (ended (at + note_size F * length es) u)
 
   walks_none : (k last at : ℕ) → Walks [] (suc k) last at
   unfolding field_notes
   walks_none k last at =
-      let e : judged F p m last tail ≡ End u = judged_end F p m last tail u (end_back F u z apart small) in
+      let e : judged F p m last tail ≡ Ok (End u) = judged_end F p m last tail u (end_back F u z apart small) in
       record {
         all = passed_end F p m k last tail u e;
-        end = ending_end F p m k last at tail u e ∙ ap (λ (n : ℕ). Ended n u) (omega (arith, mul-zero (note_size F)));
+        end = ending_end F p m k last at tail u e ∙ ap (λ (n : ℕ). Ok (ended n u)) (omega (arith, mul-zero (note_size F)));
       }
 
   walks_more : (e : Entry) (es : List Entry) (k last at : ℕ) → Fits e → Good p m last e.number e.offset e.size
@@ -65,14 +66,14 @@ module _ (F : Form) (apart : F.kind ≡ end_kind → ⊥) (marks : (f : ℕ) →
   walks_more e es k last at f g w =
       let s = field_note F e ++ (field_notes F es ++ tail) in
       let a : (field_note F e ++ field_notes F es) ++ tail ≡ s = append_assoc (field_note F e) (field_notes F es) tail in
-      let j : judged F p m last s ≡ Passed e.number e.offset e.size =
+      let j : judged F p m last s ≡ Ok (Passed e.number e.offset e.size) =
       is_passing F p m last s e.number e.offset e.size
       (record { note = field_back F e (field_notes F es ++ tail) f; marked = mark_back F e (field_notes F es ++ tail) (marks e.number); good = g }) in
       let d : drop (note_size F) s ≡ field_notes F es ++ tail = drop_at (field_note F e) (field_notes F es ++ tail) (note_size F) (field_long F e) in
       let n : at + note_size F + note_size F * length es ≡ at + note_size F * suc (length es) = omega (arith, mul-suc (note_size F) (length es)) in
       record {
         all = rw a (passed_more F p m k last s e.number e.offset e.size j ∙ rw d (ap (λ (l : List Entry). e ∷ l) w.all));
-        end = rw a (ending_more F p m k last at s e.number e.offset e.size j ∙ rw d (w.end ∙ ap (λ (x : ℕ). Ended x u) n));
+        end = rw a (ending_more F p m k last at s e.number e.offset e.size j ∙ rw d (w.end ∙ ap (λ (x : ℕ). Ok (ended x u)) n));
       }
 
   pub walks : {last : ℕ} {es : List Entry} → Walkable p m last es → AllFit es → (k at : ℕ) → length es < k → Walks es k last at
@@ -123,7 +124,7 @@ module _ (F : Form) (r : Reading) (u : ℕ) (z : List ℕ) (four : length r.mti 
   long : length notes ≡ head_size + note_size F * length r.entries + end_size + length z
   long = length-append (notes_of F r u) z ∙ omega (arith, notes_long F r u four)
 
-  pub head_good : (m : ℕ) → r.count ≤ m → head_number m notes ≡ 0
+  pub head_good : (m : ℕ) → r.count ≤ m → head_number m notes ≡ good
   unfolding head_number is_head
   head_good m few =
       rw (le-leb head_size (length notes) (omega (arith, long)), eq-eqb (get_or notes 0 0) head_kind kind_is, is_between 1 3 (get_or notes 5 0) (omega (arith, count_in_lem)) (omega (arith, count_in_lem)), le-leb (get_or notes 5 0) m (omega (arith, count_in_lem)), mti_in_lem, digit)
@@ -135,9 +136,9 @@ module _ (F : Form) (r : Reading) (u : ℕ) (z : List ℕ) (four : length r.mti 
         walks F apart marks p r.count u z small w fit (length notes) head_size
         (omega (arith, long, le-mul_of_pos_right {m = note_size F} (length r.entries) (omega arith), mul_comm (length r.entries) (note_size F)))
 
-    pub written_walked : walked d p notes ≡ Ended (head_size + note_size F * length r.entries) u
+    pub written_walked : walked d p notes ≡ Ok (ended (head_size + note_size F * length r.entries) u)
     unfolding walked
-    written_walked = rw (eq-eqb (head_number d.most notes) 0 (head_good d.most few), count_in_lem, from_head, formed) whole.end
+    written_walked = rw (walked, head_good d.most few, count_in_lem, from_head, formed) whole.end
 
     pub written_entries : entries_in d p notes ≡ r.entries
     unfolding entries_in

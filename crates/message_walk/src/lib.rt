@@ -3,20 +3,19 @@
 
 ghost use Rattle.std.specs.Prelude.{◌≡◌, true, cond, ◌+◌, ◌≤◌, length, drop, leb};
 ghost use Rattle.refusal.specs.Numbers.{outside_values};
-ghost use Rattle.refusal.specs.Refusals.{refusal};
+ghost use Rattle.refusal.specs.Refusals.{refusal, good, bad};
 ghost use Rattle.field_table.specs.House.{house};
 ghost use Rattle.field_table.specs.Codes.{decoded};
-ghost use Rattle.bitmap.specs.Bitmaps.{no_fields};
 ghost use Rattle.message_language.specs.Language.{Entry, entry};
 ghost use Rattle.message_contents.specs.Contents.{number_allowed};
 ghost use Rattle.message_notes.specs.Dialect.{plain_form, head_size, dialect};
 ghost use Rattle.message_notes.specs.Notes.{count_in};
-ghost use Rattle.message_walk.specs.Walk.{head_number, judged_field, judged, ending, walked, entries_in, fields_on, fields_in};
+ghost use Rattle.message_walk.specs.Walk.{head_number, judged_field, judged, ending, walked, entries_in, fields_on, fields_in, gathered_end, gathered_fields};
 ghost use Rattle.message_walk.specs.Faults.{any, asked, within, fault_by};
 
 use bitmap::FieldSet;
 use message_notes::Note;
-use refusal::Refusal;
+use refusal::{Cause, Refusal};
 
 // What is asked of a content besides its place: what the exact writer asks, or the cleaning writer. Lookup asks nothing.
 #[derive(Clone, Copy)]
@@ -25,7 +24,7 @@ pub enum Rule {
     Clean,
 }
 
-// What a note is found to be: a field's, with the place of its content in the values; the end; or the number of a refusal and its field.
+// What a note is found to be that is not refused: a field's, with the place of its content in the values; or the end.
 #[derive(Clone, Copy)]
 pub enum Judged {
     Passed {
@@ -34,105 +33,84 @@ pub enum Judged {
         length: usize,
     },
     End(usize),
-    Refused {
-        number: u8,
-        field: usize,
-    },
 }
 
-// How a walk ends: where the end note stands and the length that it says; or the refusal.
+// Why a note is refused, and its field. The walk adds the place.
 #[derive(Clone, Copy)]
-pub enum Walked {
-    Ended { at: usize, said: usize },
-    Refused(Refusal),
+pub struct Flaw {
+    pub cause: Cause,
+    pub field: usize,
 }
 
-// What a walk gathers: how it ended, and the set of the fields that the notes name, empty where it was refused.
+// Where a walk has come to the end note, and the length that this says.
+#[derive(Clone, Copy)]
+pub struct Ended {
+    pub at: usize,
+    pub said: usize,
+}
+
+// What a walk gathers that comes to the end note: this, and the set of the fields that the notes name.
 #[derive(Clone, Copy)]
 pub struct Gathered {
-    pub end: Walked,
+    pub end: Ended,
     pub fields: FieldSet,
 }
 
-// Walks the notes from the head to the end note, as lookup does: nothing is asked of a content but that it lies within the values.
-pub fn walk(values: &[u8], notes: &[u8]) -> Gathered
-    ensures end { result.end ≡ walked (dialect house) (within values.now any) notes.now }
-    ensures fields { result.fields.bits ≡ fields_in (dialect house) (within values.now any) notes.now }
-{
-    let fault = head_fault(notes);
-    if fault != 0 {
-        return refused_at(fault, 0, 0);
+impl Flaw {
+    // The refusal of the note at a place.
+    pub fn at(self, position: usize) -> Refusal
+        ensures { result ≡ refusal self.cause self.field position }
+    {
+        self.cause.at(self.field, position)
     }
+}
+
+// Walks the notes from the head to the end note, as lookup does: nothing is asked of a content but that it lies within the values.
+pub fn walk(values: &[u8], notes: &[u8]) -> Result<Gathered, Refusal>
+    ensures end { gathered_end result ≡ walked (dialect house) (within values.now any) notes.now }
+    ensures fields { gathered_fields result ≡ fields_in (dialect house) (within values.now any) notes.now }
+{
+    head_fault(notes)?;
     walk_fields(values, notes)
 }
 
-// What is wrong with the head: 9, then 3; 0 where nothing is.
-pub fn head_fault(notes: &[u8]) -> u8
+// What is wrong with the head: 9, then 3.
+pub fn head_fault(notes: &[u8]) -> Result<(), Cause>
     ensures { result ≡ head_number 3 notes.now }
 {
-    if !message_notes::is_head(notes) {
-        return refusal::NOTE_MALFORMED;
-    }
     let count = message_notes::count_in(notes);
-    if count < 1 {
-        return refusal::NOTE_MALFORMED;
-    }
-    if 3 < count {
-        return refusal::NOTE_MALFORMED;
+    if !message_notes::is_head(notes) || count < 1 || 3 < count {
+        return Err(Cause::NoteMalformed);
     }
     if !octets::all_between(message_notes::mti_in(notes), b'0', b'9') {
-        return refusal::MTI_NOT_DIGITS;
+        return Err(Cause::MtiNotDigits);
     }
-    0
+    Ok(())
 }
 
 // Walks the notes behind a good head.
-fn walk_fields(values: &[u8], notes: &[u8]) -> Gathered
+fn walk_fields(values: &[u8], notes: &[u8]) -> Result<Gathered, Refusal>
     requires { head_size ≤ length notes.now }
-    ensures end { result.end ≡ ending plain_form (within values.now any) (count_in notes.now) (length notes.now) 0 head_size (drop head_size notes.now) }
-    ensures fields { result.fields.bits ≡ fields_on result.end (entries_in (dialect house) (within values.now any) notes.now) }
+    ensures end { gathered_end result ≡ ending plain_form (within values.now any) (count_in notes.now) (length notes.now) 0 head_size (drop head_size notes.now) }
+    ensures fields { gathered_fields result ≡ fields_on (gathered_end result) (entries_in (dialect house) (within values.now any) notes.now) }
 {
     let count = message_notes::count_in(notes);
     let mut fields = FieldSet::none();
-    let mut last: usize = 0;
+    let mut last = 0;
     let mut at = message_notes::HEAD_SIZE;
-    while at <= notes.len() {
+    loop {
         match judge_place(values, &notes[at..], count, last) {
-            Judged::Refused { number, field } => {
-                return refused_at(number, field, at);
+            Err(flaw) => return Err(flaw.at(at)),
+            Ok(Judged::End(said)) => {
+                let end = Ended { at, said };
+                return Ok(Gathered { end, fields });
             }
-            Judged::End(said) => {
-                return Gathered {
-                    end: Walked::Ended { at, said },
-                    fields,
-                };
-            }
-            Judged::Passed {
-                number,
-                offset: _,
-                length: _,
-            } => {
+            Ok(Judged::Passed { number, .. }) => {
                 fields = fields.with(number);
                 last = number;
                 at += message_notes::FIELD_NOTE_SIZE;
             }
         }
-    }
-    refused_at(refusal::NOTE_MALFORMED, 0, at)
-}
-
-// A walk that is refused at the place at.
-fn refused_at(number: u8, field: usize, at: usize) -> Gathered
-    ensures end { result.end ≡ Walked.Refused (refusal number field at) }
-    ensures fields { result.fields.bits ≡ no_fields }
-{
-    Gathered {
-        end: Walked::Refused(Refusal {
-            number,
-            field,
-            position: at,
-        }),
-        fields: FieldSet::none(),
     }
 }
 
@@ -144,15 +122,15 @@ pub fn judge(
     last: usize,
     rule: Rule,
     table: &[u16],
-) -> Judged
+) -> Result<Judged, Flaw>
     ensures { result ≡ judged plain_form (fault_by (decoded table.now) values.now rule) count last rest.now }
 {
     match message_notes::read_note(rest) {
-        Note::Malformed => Judged::Refused {
-            number: refusal::NOTE_MALFORMED,
+        Note::Malformed => Err(Flaw {
+            cause: Cause::NoteMalformed,
             field: 0,
-        },
-        Note::End(said) => Judged::End(said),
+        }),
+        Note::End(said) => Ok(Judged::End(said)),
         Note::Field {
             number,
             offset,
@@ -165,15 +143,15 @@ pub fn judge(
 }
 
 // The same where nothing is asked of a content but its place.
-fn judge_place(values: &[u8], rest: &[u8], count: usize, last: usize) -> Judged
+fn judge_place(values: &[u8], rest: &[u8], count: usize, last: usize) -> Result<Judged, Flaw>
     ensures { result ≡ judged plain_form (within values.now any) count last rest.now }
 {
     match message_notes::read_note(rest) {
-        Note::Malformed => Judged::Refused {
-            number: refusal::NOTE_MALFORMED,
+        Note::Malformed => Err(Flaw {
+            cause: Cause::NoteMalformed,
             field: 0,
-        },
-        Note::End(said) => Judged::End(said),
+        }),
+        Note::End(said) => Ok(Judged::End(said)),
         Note::Field {
             number,
             offset,
@@ -185,33 +163,34 @@ fn judge_place(values: &[u8], rest: &[u8], count: usize, last: usize) -> Judged
     }
 }
 
-// Judges the note of a field: its number comes before the fault that was found with the field, 0 where there is none.
+// Judges the note of a field: its number comes before the fault that was found with the field.
+#[tactic(auto, unfolding(crate::specs::Walk::judged_field))]
 fn judge_field(
     count: usize,
     last: usize,
     number: usize,
     offset: usize,
     length: usize,
-    fault: u8,
-) -> Judged
+    fault: Result<(), Cause>,
+) -> Result<Judged, Flaw>
     ensures { result ≡ judged_field true (λ (e : Entry). fault) count last number offset length }
 {
     if !is_number_allowed(count, last, number) {
-        return Judged::Refused {
-            number: refusal::NUMBER_NOT_ALLOWED,
+        return Err(Flaw {
+            cause: Cause::NumberNotAllowed,
             field: number,
-        };
+        });
     }
-    if fault != 0 {
-        return Judged::Refused {
-            number: fault,
+    match fault {
+        Ok(()) => Ok(Judged::Passed {
+            number,
+            offset,
+            length,
+        }),
+        Err(cause) => Err(Flaw {
+            cause,
             field: number,
-        };
-    }
-    Judged::Passed {
-        number,
-        offset,
-        length,
+        }),
     }
 }
 
@@ -219,16 +198,10 @@ fn judge_field(
 fn is_number_allowed(count: usize, last: usize, number: usize) -> bool
     ensures { result ≡ number_allowed count last number }
 {
-    if number <= last {
-        return false;
-    }
-    if !bitmap::is_field(number) {
-        return false;
-    }
-    (number - 1) / 64 < count
+    last < number && bitmap::is_field(number) && (number - 1) / 64 < count
 }
 
-// What is wrong with the field: 11, then what the rule asks of its content; 0 where nothing is.
+// What is wrong with the field: 11, then what the rule asks of its content.
 fn fault_of(
     values: &[u8],
     number: usize,
@@ -236,38 +209,27 @@ fn fault_of(
     length: usize,
     rule: Rule,
     table: &[u16],
-) -> u8
+) -> Result<(), Cause>
     ensures { result ≡ fault_by (decoded table.now) values.now rule (entry number offset length) }
 {
-    if !is_inside(values.len(), offset, length) {
-        return refusal::OUTSIDE_VALUES;
-    }
+    place_fault(values.len(), offset, length)?;
     let end = offset + length;
     content_fault(rule, number, &values[offset..end], table)
 }
 
-// 11 where length bytes at offset do not lie within size bytes, else 0.
-fn place_fault(size: usize, offset: usize, length: usize) -> u8
-    ensures { result ≡ cond (leb (offset + length) size) 0 outside_values }
+// 11 where length bytes at offset do not lie within size bytes; the sum may be more than a number holds.
+fn place_fault(size: usize, offset: usize, length: usize) -> Result<(), Cause>
+    ensures { result ≡ cond (leb (offset + length) size) good (bad outside_values) }
 {
-    if is_inside(size, offset, length) {
-        return 0;
+    if size < length || size - length < offset {
+        return Err(Cause::OutsideValues);
     }
-    refusal::OUTSIDE_VALUES
+    Ok(())
 }
 
-// Whether length bytes at offset lie within size bytes; the sum may be more than a number holds.
-fn is_inside(size: usize, offset: usize, length: usize) -> bool
-    ensures { result ≡ leb (offset + length) size }
-{
-    if size < length {
-        return false;
-    }
-    offset <= size - length
-}
-
-// What the rule finds wrong with a content: 12 or 8; 0 where nothing is.
-fn content_fault(rule: Rule, number: usize, content: &[u8], table: &[u16]) -> u8
+// What the rule finds wrong with a content: 12 or 8.
+#[tactic(auto, unfolding(crate::specs::Faults::asked))]
+fn content_fault(rule: Rule, number: usize, content: &[u8], table: &[u16]) -> Result<(), Cause>
     ensures { result ≡ asked (decoded table.now) rule number content.now }
 {
     match rule {

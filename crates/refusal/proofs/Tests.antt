@@ -7,9 +7,8 @@ use native.Mathlib.Omega.{arith}
 use Rattle.std.specs.Prelude.{Result, Ok, Err}
 use Rattle.std.specs.Result.{IsErrAnd}
 use Rattle.std.proofs.lemmas.Result.{err_from_is_err_and}
-use Rattle.refusal.specs.Refusals.{plain, Test, good, bad}
+use Rattle.refusal.specs.Refusals.{Test, good, bad}
 use Rattle.refusal.specs.declared.Cause.{Cause}
-use Rattle.refusal.specs.declared.Refusal.{Refusal}
 
 pub bad_good : {P : Type 0} (c : Cause) → bad c ≡ good → P
 bad_good c e = absurd (let z : ◌≡◌ {A = ℕ} 0 1 = cc in omega arith)
@@ -28,6 +27,6 @@ pub passed_both : (b : Bool) (t : Test) (c : Cause) → cond b t (bad c) ≡ goo
 passed_both true t c e = (refl, e)
 passed_both false t c e = bad_good c e
 
--- the cause that a test found becomes a refusal with no field, at position 0
-pub handed_on : {A : Type 0} {r : Result A Refusal} {c : Cause} → IsErrAnd r (λ x. x ≡ plain c) → r ≡ Err (plain c)
-handed_on {A} {r} {c} h = let found = err_from_is_err_and r h in found.1 ∙ ap Err found.2
+-- what `?` hands on: the cause that a test found, or the refusal that it becomes, with no field, at position 0
+pub handed_on : {A E : Type 0} {r : Result A E} {x : E} → IsErrAnd r (λ y. y ≡ x) → r ≡ Err x
+handed_on {A} {E} {r} {x} h = let found = err_from_is_err_and r h in found.1 ∙ ap Err found.2

@@ -1,17 +1,11 @@
 -- The place first, and then the content.
-use Rattle.message_walk.proofs.Ends.{inside_of, fault_outside, fault_inside}
-use native.Mathlib.Omega.{arith}
-use borrow.Author.Rules.{rules}
+use mathlib.Core.Path.{◌∙◌}
+use Rattle.refusal.proofs.Tests.{handed_on}
+use Rattle.message_walk.proofs.Ends.{fault_outside, fault_inside}
 use Rattle.message_walk.proofs.fault_of.Goals as goal
 
-pub returns-then-not-is_inside : goal.returns-then-not-is_inside
-returns-then-not-is_inside c = search (fault_outside, rules)
-
-pub overflow_add-end : goal.overflow_add-end
-overflow_add-end c = omega (arith, inside_of c.args.offset c.args.length _ _ c.is_inside.ensures (rw c.if-not-is_inside.false))
-
-pub slice_bounds-content_fault-end : goal.slice_bounds-content_fault-end
-slice_bounds-content_fault-end c = inside_of _ _ _ _ c.is_inside.ensures (rw c.if-not-is_inside.false)
+pub returns-in_err-place_fault : goal.returns-in_err-place_fault
+returns-in_err-place_fault c = handed_on c.from_residual.ensures.1 ∙ fault_outside _ _ _ _ _ _ _ c.in_err-place_fault.ensures
 
 pub returns : goal.returns
-returns c = search (fault_inside, rules)
+returns c = fault_inside _ _ _ _ _ _ _ c.in_ok-place_fault.ensures c.content_fault.ensures
