@@ -1,62 +1,77 @@
 -- The ends of the link, with the facts as its code has them: answer and output together. Assumes nothing.
-use Prim.Native.Nat.{ℕ, ◌+◌, ◌*◌, ◌≤◌, ◌<◌}
+use Prim.Native.Nat.{ℕ, ◌+◌, ◌*◌, ◌≤◌}
 use mathlib.Core.Path.{◌≡◌, sym, ap, ◌∙◌}
 use mathlib.Core.List.{List, ◌++◌}
 use lib.ListN.{length, take, drop}
 use borrow.Author.Tests.{le-leb, lt-leb}
+use Rattle.std.specs.Prelude.{Result, Ok, Err}
+use Rattle.std.specs.Result.{IsErrAnd}
+use Rattle.std.proofs.lemmas.Result.{err_from_is_err_and}
 use Rattle.octets.specs.Lists.{lay}
 use Rattle.refusal.specs.Numbers.{output_too_short}
-use Rattle.refusal.specs.Refusals.{plain}
+use Rattle.refusal.specs.Refusals.{plain, good, bad, room}
+use Rattle.refusal.specs.declared.Cause.{Cause}
+use Rattle.refusal.proofs.Tests.{bad_good}
+use Rattle.octets.proofs.Cases.{by_lt}
 use Rattle.refusal.specs.declared.Refusal.{Refusal}
 use Rattle.field_table.specs.Table.{Table}
 use Rattle.bitmap.specs.Bitmaps.{fields_of}
-use Rattle.bitmap_read.specs.declared.BitmapsRead.TheVariants.{Count, Refused as HeadRefused}
 use Rattle.bitmap_read.specs.Found.{maps_of}
 use Rattle.packed_field.specs.declared.Script.{Script}
 use Rattle.packed_field.specs.Scripts.{other, size_of, carried}
-use Rattle.packed_link.specs.declared.Judged.{Judged}
-use Rattle.packed_link.specs.declared.Judged.TheVariants.{Good, Refused as JudgedBad}
 use Rattle.packed_link.specs.declared.Translated.{Translated}
-use Rattle.packed_link.specs.declared.Translated.TheVariants.{Done, Refused}
 use Rattle.packed_link.specs.Link.{told_link, link_head, fields_judged, fields_carried, body_judged, body_carried, link_judged, link_carried, link_answer, link_output}
 
-pub record Ends (S : Script) (t : Table) (m : ℕ) (s out : List ℕ) (r : Translated) (after : List ℕ) : Type 0 where
+pub record Ends (S : Script) (t : Table) (m : ℕ) (s out : List ℕ) (r : Result Translated Refusal) (after : List ℕ) : Type 0 where
   pub answer : r ≡ link_answer S t m s out
   pub output : after ≡ link_output S t m s out
 
-module _ (S : Script) (t : Table) (m : ℕ) (s out : List ℕ) where
-  refused : (r : Refusal) → link_answer S t m s out ≡ Refused r → Ends S t m s out (Refused r) out
+-- a refusal that `?` hands on
+passed_on : {A : Type 0} {r : Result A Refusal} {why : Refusal} → IsErrAnd r (λ x. x ≡ why) → r ≡ Err why
+passed_on {A} {r} h = let found = err_from_is_err_and r h in found.1 ∙ ap Err found.2
+
+-- what the test of the room finds
+pub fits : (n k : ℕ) → good ≡ room n k → n ≤ k
+fits n k h = by_lt k n (λ l. bad_good output_too_short (sym (h ∙ rw (lt-leb n k l)))) (λ g. g)
+
+head_judged : (S : Script) (t : Table) (m : ℕ) (s : List ℕ) (k : ℕ) → link_head S m s ≡ Ok k → link_judged S t m s ≡ body_judged S t s k
+unfolding link_judged
+head_judged S t m s k head = rw (link_judged, head)
+
+module _ (S : Script) (t : Table) (m : ℕ) (s out : List ℕ) {a : Result Translated Refusal} where
+  refused : (r : Refusal) → a ≡ Err r → link_answer S t m s out ≡ Err r → Ends S t m s out a out
   unfolding link_output
-  refused r e = record { answer = sym e; output = rw (link_output, e) }
+  refused r h e = record { answer = h ∙ sym e; output = rw (link_output, e) }
 
-  bad : (r : Refusal) → link_judged S t m s ≡ JudgedBad r → Ends S t m s out (Refused r) out
+  bad_judged : (r : Refusal) → a ≡ Err r → link_judged S t m s ≡ Err r → Ends S t m s out a out
   unfolding link_answer
-  bad r e = refused r (rw (link_answer, e))
+  bad_judged r h e = refused r h (rw (link_answer, e))
 
-  pub ends_head : (r : Refusal) → link_head S m s ≡ HeadRefused r → Ends S t m s out (Refused r) out
+  pub ends_head : {r : Refusal} → IsErrAnd a (λ x. x ≡ r) → Err r ≡ link_head S m s → Ends S t m s out a out
   unfolding link_judged
-  ends_head r e = bad r (rw (link_judged, e))
+  ends_head {r} h e = bad_judged r (passed_on h) (rw (link_judged, ← e))
 
-  module _ (k : ℕ) (head : link_head S m s ≡ Count k) where
-    judged : link_judged S t m s ≡ body_judged S t s k
-    unfolding link_judged
-    judged = rw (link_judged, head)
+  module _ (k : ℕ) (head : link_head S m s ≡ Ok k) where
+    pub ends_refused : {r : Refusal} → IsErrAnd a (λ x. x ≡ r) → body_judged S t s k ≡ Err r → Ends S t m s out a out
+    ends_refused {r} h e = bad_judged r (passed_on h) (head_judged S t m s k head ∙ e)
 
-    pub ends_refused : (r : Refusal) → body_judged S t s k ≡ JudgedBad r → Ends S t m s out (Refused r) out
-    ends_refused r e = bad r (judged ∙ e)
-
-    module _ (u w : ℕ) (good : body_judged S t s k ≡ Good u w) where
-      pub ends_short : length out < w → Ends S t m s out (Refused (plain output_too_short)) out
+    module _ (d : Translated) (clean : body_judged S t s k ≡ Ok d) where
+      pub ends_short : {c : Cause} → IsErrAnd a (λ x. x ≡ plain c) → bad c ≡ room d.written (length out) → Ends S t m s out a out
       unfolding link_answer
-      ends_short h = refused (plain output_too_short) (rw (link_answer, judged ∙ good, lt-leb w (length out) h))
+      ends_short {c} h e =
+          by_lt (length out) d.written
+          (λ l.
+          let same : bad c ≡ bad output_too_short = e ∙ rw (lt-leb d.written (length out) l) in
+          let is : c ≡ output_too_short = cc in
+          refused (plain output_too_short) (passed_on h ∙ ap (λ (x : Cause). Err (plain x)) is)
+          (rw (link_answer, head_judged S t m s k head ∙ clean, lt-leb d.written (length out) l)))
+          (λ g. bad_good c (e ∙ rw (le-leb d.written (length out) g)))
 
-      done : w ≤ length out → link_answer S t m s out ≡ Done u w
-      unfolding link_answer
-      done h = rw (link_answer, judged ∙ good, le-leb w (length out) h)
-
-      pub ends_done : w ≤ length out → (after : List ℕ) → after ≡ lay (body_carried S t s k) out → Ends S t m s out (Done u w) after
-      unfolding link_output link_carried
-      ends_done h after e = record { answer = sym (done h); output = e ∙ sym (rw (link_output, done h, link_carried, head)) }
+      pub ends_done : a ≡ Ok d → d.written ≤ length out → (after : List ℕ) → after ≡ lay (body_carried S t s k) out → Ends S t m s out a after
+      unfolding link_answer link_output link_carried
+      ends_done q h after e =
+          let done : link_answer S t m s out ≡ Ok d = rw (link_answer, head_judged S t m s k head ∙ clean, le-leb d.written (length out) h) in
+          record { answer = q ∙ sym done; output = e ∙ sym (rw (link_output, done, link_carried, head)) }
 
 -- the fields that the code has listed are those of the bitmaps
 module _ (S : Script) (t : Table) (s fs : List ℕ) (k : ℕ) (is : fs ≡ fields_of (maps_of (size_of S 4) s k) k) where
@@ -65,7 +80,7 @@ module _ (S : Script) (t : Table) (s fs : List ℕ) (k : ℕ) (is : fs ≡ field
   body_is a b ea eb = rw (is, ea, eb)
 
   -- r is what judging the fields answered; x and y are the sizes of the MTI in either script, of which o is the other
-  pub body_said : (r : Judged) (x y : ℕ) (o : Script) → x ≡ size_of S 4 → o ≡ other S → y ≡ size_of o 4
+  pub body_said : (r : Result Translated Refusal) (x y : ℕ) (o : Script) → x ≡ size_of S 4 → o ≡ other S → y ≡ size_of o 4
       → r ≡ fields_judged S t (x + 8 * k) (y + 8 * k) fs (drop (x + 8 * k) s) → body_judged S t s k ≡ r
   body_said r x y o ex eo ey e =
       sym (
@@ -80,10 +95,10 @@ module _ (S : Script) (t : Table) (s fs : List ℕ) (k : ℕ) (is : fs ≡ field
 
 -- the numbers that are lent stand for another table
 module _ (S : Script) (t u : Table) (m : ℕ) (s out : List ℕ) (same : t ≡ u) where
-  pub answer_by_lem : (r : Translated) → r ≡ link_answer S t m s out → r ≡ link_answer S u m s out
+  pub answer_by_lem : (r : Result Translated Refusal) → r ≡ link_answer S t m s out → r ≡ link_answer S u m s out
   answer_by_lem r e = e ∙ ap (λ (x : Table). link_answer S x m s out) same
 
-  pub tells_by : (r : Translated) → r ≡ link_answer S t m s out → told_link r ≡ told_link (link_answer S u m s out)
+  pub tells_by : (r : Result Translated Refusal) → r ≡ link_answer S t m s out → told_link r ≡ told_link (link_answer S u m s out)
   tells_by r e = ap told_link (answer_by_lem r e)
 
   pub output_by_lem : (after : List ℕ) → after ≡ link_output S t m s out → after ≡ link_output S u m s out

@@ -10,19 +10,20 @@ use lib.Dec.{eqb}
 use lib.ListN.{length, take, drop, length-take}
 use lib.Seq.{length-take-le, take-append_seam}
 use borrow.Author.Tests.{lt-ltb, le-ltb, eq-eqb, eqb-true}
+use Rattle.std.specs.Prelude.{Result, Ok, Err}
+use Rattle.std.specs.Result.{is_ok}
 use Rattle.octets.specs.Lists.{all, lead, lay}
 use Rattle.octets.specs.Numbers.{is_digit, are_digits}
-use Rattle.octets.proofs.Cases.{by_lt, both_left, both_right}
+use Rattle.octets.proofs.Cases.{by_lt, both_left, both_right, false_true}
 use Rattle.octets.proofs.Lists.{lead_all, lead_most, lay_length}
 use Rattle.refusal.specs.Numbers.{message_too_short}
-use Rattle.refusal.specs.Refusals.{refusal, plain}
+use Rattle.refusal.specs.Refusals.{refusal, plain, Test, good}
+use Rattle.refusal.specs.declared.Cause.{Cause}
 use Rattle.refusal.specs.declared.Refusal.{Refusal}
 use Rattle.encoding_bcd.specs.Bcd.{is_bcd, spare_zero, decode_fault}
 use Rattle.encoding_bcd.proofs.Faults.{decode_good}
 use Rattle.bitmap.specs.Bitmaps.{fields_of}
 use Rattle.bitmap.proofs.Fields.{fields_few, fields_in_lem}
-use Rattle.bitmap_read.specs.declared.BitmapsRead.{BitmapsRead}
-use Rattle.bitmap_read.specs.declared.BitmapsRead.TheVariants.{Count, Refused}
 use Rattle.bitmap_read.specs.Found.{maps_of, bitmaps_read}
 use Rattle.bitmap_read.proofs.Found.{FoundMaps, maps_least, maps_found, maps_read}
 use Rattle.packed_field.specs.declared.Script.{Script}
@@ -38,16 +39,16 @@ mti_small Packed = omega arith
 
 -- the ends of `read_head`
 module _ (S : Script) (m : ℕ) (s : List ℕ) (a : ℕ) (sized : a ≡ size_of S 4) where
-  pub head_short : length s < a + 8 → Refused (plain message_too_short) ≡ link_head S m s
+  pub head_short : (r : Refusal) → length s < a + 8 → r ≡ plain message_too_short → Err r ≡ link_head S m s
   unfolding link_head
-  head_short h = rw (← sized, lt-ltb (length s) (a + 8) h)
+  head_short r h e = rw (e, ← sized, lt-ltb (length s) (a + 8) h)
 
   module _ (long : a + 8 ≤ length s) (n : ℕ) (is : n ≡ lead (is_part S) (take a s)) where
-    pub head_no_digit : (x : ℕ) → n < a → x ≡ mti_fault S → Refused (refusal x 0 n) ≡ link_head S m s
+    pub head_no_digit : (x : Cause) (r : Refusal) → n < a → x ≡ mti_fault S → r ≡ refusal x 0 n → Err r ≡ link_head S m s
     unfolding link_head
-    head_no_digit x h e = rw (← sized, le-ltb (length s) (a + 8) long, ← is, lt-ltb n a h) (ap (λ (y : ℕ). Refused (refusal y 0 n)) e)
+    head_no_digit x r h e q = rw (q, e, ← sized, le-ltb (length s) (a + 8) long, ← is, lt-ltb n a h)
 
-    pub head_maps : (r : BitmapsRead) → a ≤ n → r ≡ bitmaps_read a m s → r ≡ link_head S m s
+    pub head_maps : (r : Result ℕ Refusal) → a ≤ n → r ≡ bitmaps_read a m s → r ≡ link_head S m s
     unfolding link_head
     head_maps r h e = rw (← sized, le-ltb (length s) (a + 8) long, ← is, le-ltb n a h) e
 
@@ -57,17 +58,21 @@ unfolding size_of is_spelt is_part are_digits decode_fault spare_zero
 all_parts Plain x l t = rw (eq-eqb (length x) 4 l) t
 all_parts Packed x l t = rw (eq-eqb (length x) 2 l, t)
 
+clean : (t : Test) → is_ok t ≡ true → t ≡ good
+clean (Ok x) h = refl
+clean (Err c) h = absurd (false_true h)
+
 parts_all : (S : Script) (x : List ℕ) → is_spelt S 4 x ≡ true → all (is_part S) x ≡ true
 unfolding is_spelt is_part are_digits
 parts_all Plain x t = both_right (eqb (length x) 4) (all is_digit x) t
-parts_all Packed x t = both_left (all is_bcd x) (spare_zero 4 x) (decode_good 4 x (eqb-true (decode_fault 4 x) 0 t))
+parts_all Packed x t = both_left (all is_bcd x) (spare_zero 4 x) (decode_good 4 x (clean (decode_fault 4 x) t))
 
 -- What it means that a head with k bitmaps is read, where at most m are taken.
 pub record Headed (S : Script) (m : ℕ) (s : List ℕ) (k : ℕ) : Type 0 where
   pub mti : is_spelt S 4 (take (size_of S 4) s) ≡ true
   pub maps : FoundMaps (size_of S 4) m s k
 
-never : (o : BitmapsRead) (r : Refusal) (k : ℕ) → o ≡ Refused r → o ≡ Count k → ⊥
+never : (o : Result ℕ Refusal) (r : Refusal) (k : ℕ) → o ≡ Err r → o ≡ Ok k → ⊥
 never o r k p q = let z : ◌≡◌ {A = ℕ} 0 1 = cc in omega arith
 
 module _ (S : Script) (m : ℕ) (s : List ℕ) (k : ℕ) where
@@ -77,7 +82,7 @@ module _ (S : Script) (m : ℕ) (s : List ℕ) (k : ℕ) where
   abbrev x : List ℕ
   x = take a s
 
-  pub head_found : 2 ≤ m → link_head S m s ≡ Count k → Headed S m s k
+  pub head_found : 2 ≤ m → link_head S m s ≡ Ok k → Headed S m s k
   unfolding link_head
   head_found least e =
       by_lt (length s) (a + 8) (λ h. absurd (never _ (plain message_too_short) k (rw (lt-ltb (length s) (a + 8) h)) e))
@@ -91,15 +96,15 @@ module _ (S : Script) (m : ℕ) (s : List ℕ) (k : ℕ) where
         maps = maps_found a m s k least (rw (le-ltb (length s) (a + 8) long, le-ltb (lead (is_part S) x) a good) at e);
       }))
 
-  pub head_reads : Headed S m s k → link_head S m s ≡ Count k
+  pub head_reads : Headed S m s k → link_head S m s ≡ Ok k
   head_reads h =
       let long : a + 8 ≤ length s = omega (arith, h.maps.long, maps_least a m s k h.maps) in
       let l : length x ≡ a = length-take-le a s (omega arith) in
       let w : lead (is_part S) x ≡ length x = eqb-true (lead (is_part S) x) (length x) (lead_all (is_part S) x ∙ parts_all S x h.mti) in
-      sym (head_maps S m s a refl long (lead (is_part S) x) refl (Count k) (omega arith) (sym (maps_read a m s k h.maps)))
+      sym (head_maps S m s a refl long (lead (is_part S) x) refl (Ok k) (omega arith) (sym (maps_read a m s k h.maps)))
 
   -- what a head that is read says of its bitmaps
-  module _ (least : 2 ≤ m) (e : link_head S m s ≡ Count k) where
+  module _ (least : 2 ≤ m) (e : link_head S m s ≡ Ok k) where
     pub head_few : k ≤ m
     head_few = (head_found least e).maps.few
 

@@ -8,6 +8,7 @@ use native.Mathlib.Omega.{arith}
 use lib.ListN.{length, take, drop, length-append, length-drop}
 use lib.Seq.{length-take-le}
 use borrow.Rule.Slice.PartMut.{mid_of, put_mid}
+use Rattle.std.specs.Prelude.{Ok}
 use Rattle.octets.specs.Lists.{lay, placed}
 use Rattle.octets.proofs.Cases.{by_bool}
 use Rattle.octets.proofs.Lists.{placed_fits}
@@ -16,7 +17,7 @@ use Rattle.field_table.specs.Table.{Table}
 use Rattle.field_table.specs.Codes.{decoded}
 use Rattle.field_table.specs.declared.Class.{Class}
 use Rattle.packed_field.specs.declared.Script.{Script}
-use Rattle.packed_field.specs.declared.Item.TheVariants.{Found}
+use Rattle.packed_field.specs.declared.Item.{Item}
 use Rattle.packed_field.specs.Scripts.{other, size_of, is_spelt, carried, carried_into}
 use Rattle.packed_field.specs.Items.{is_numeric, content_size, is_content, judge_item}
 use Rattle.packed_field.proofs.Scripts.{carried_long, carried_placed}
@@ -68,64 +69,64 @@ module _ (S : Script) (c : Class) (n : ℕ) (x : List ℕ) (good : is_content S 
         rw (as_is z) (e ∙ placed_fits x o (content_size (other S) c n) (as_is_size z) room)
 
 -- a field
-module _ (S : Script) (t : Table) (f : ℕ) (s : List ℕ) (a n k j : ℕ) (found : judge_item S t f s ≡ Found a n k j) where
-  good : Good S t f s a n k j
-  good = good_judged S t f s a n k j found
+module _ (S : Script) (t : Table) (f : ℕ) (s : List ℕ) (i : Item) (found : judge_item S t f s ≡ Ok i) where
+  good : Good S t f s i.start i.count i.size i.carried
+  good = good_judged S t f s i.start i.count i.size i.carried found
 
-  abbrev p : Placed S (t.width f) (t.most f) (t.class f) s a n k j
+  abbrev p : Placed S (t.width f) (t.most f) (t.class f) s i.start i.count i.size i.carried
   p = good.place
 
-  pub item_within : a + k ≤ length s
+  pub item_within : i.start + i.size ≤ length s
   item_within = omega (arith, p.whole, p.room)
 
-  pub content_sized : length (take k (drop a s)) ≡ content_size S (t.class f) n
-  content_sized = length-take-le k (drop a s) (omega (arith, length-drop a s, p.room)) ∙ p.size
+  pub content_sized : length (take i.size (drop i.start s)) ≡ content_size S (t.class f) i.count
+  content_sized = length-take-le i.size (drop i.start s) (omega (arith, length-drop i.start s, p.room)) ∙ p.size
 
-  pub content_good : is_content S (t.class f) n (take k (drop a s)) ≡ true
+  pub content_good : is_content S (t.class f) i.count (take i.size (drop i.start s)) ≡ true
   content_good = good.content
 
-  pub digits_good : is_spelt S (t.width f) (take a s) ≡ true
+  pub digits_good : is_spelt S (t.width f) (take i.start s) ≡ true
   digits_good = p.digits
 
-  pub digits_carried_long : length (carried S (t.width f) (take a s)) ≡ size_of (other S) (t.width f)
-  digits_carried_long = carried_long S (t.width f) (take a s) digits_good
+  pub digits_carried_long : length (carried S (t.width f) (take i.start s)) ≡ size_of (other S) (t.width f)
+  digits_carried_long = carried_long S (t.width f) (take i.start s) digits_good
 
-  pub across_is : j ≡ size_of (other S) (t.width f) + content_size (other S) (t.class f) n
+  pub across_is : i.carried ≡ size_of (other S) (t.width f) + content_size (other S) (t.class f) i.count
   across_is = p.across
 
-  pub item_long : length (item_carried S t f a n k s) ≡ j
+  pub item_long : length (item_carried S t f i.start i.count i.size s) ≡ i.carried
   unfolding item_carried
   item_long =
-      length-append (carried S (t.width f) (take a s)) (content_carried S (t.class f) n (take k (drop a s)))
-      ∙ omega (arith, digits_carried_long, content_long S (t.class f) n (take k (drop a s)) content_good content_sized, across_is)
+      length-append (carried S (t.width f) (take i.start s)) (content_carried S (t.class f) i.count (take i.size (drop i.start s)))
+      ∙ omega (arith, digits_carried_long, content_long S (t.class f) i.count (take i.size (drop i.start s)) content_good content_sized, across_is)
 
   -- as `carry_item` has its parts
-  pub content_asked : (c : Class) → c ≡ t.class f → (is_content S c n (take (a + k - a) (drop a s)) ≡ true) × (length (take (a + k - a) (drop a s)) ≡ content_size S c n)
-  content_asked c e = rw (e, add-sub_cancel_left a k) (content_good, content_sized)
+  pub content_asked : (c : Class) → c ≡ t.class f → (is_content S c i.count (take (i.start + i.size - i.start) (drop i.start s)) ≡ true) × (length (take (i.start + i.size - i.start) (drop i.start s)) ≡ content_size S c i.count)
+  content_asked c e = rw (e, add-sub_cancel_left i.start i.size) (content_good, content_sized)
 
-  pub first_left : (w x : ℕ) (X : Script) (c : Class) → w ≡ t.width f → X ≡ other S → x ≡ size_of X w → c ≡ t.class f → x + content_size (other S) c n ≡ j
+  pub first_left : (w x : ℕ) (X : Script) (c : Class) → w ≡ t.width f → X ≡ other S → x ≡ size_of X w → c ≡ t.class f → x + content_size (other S) c i.count ≡ i.carried
   first_left w x X c ew eX ex ec = rw (ex, eX, ew, ec) (sym across_is)
 
   -- the end of `carry_item`: o held the output, e once the length digits were written, g is the part with the content
-  module _ (o e g : List ℕ) (w x : ℕ) (c : Class) (X : Script) (room : j ≤ length o) (wide : w ≡ t.width f) (across : X ≡ other S) (first : x ≡ size_of X w) (classed : c ≡ t.class f)
-      (digits : e ≡ carried_into S w (take a s) o) where
+  module _ (o e g : List ℕ) (w x : ℕ) (c : Class) (X : Script) (room : i.carried ≤ length o) (wide : w ≡ t.width f) (across : X ≡ other S) (first : x ≡ size_of X w) (classed : c ≡ t.class f)
+      (digits : e ≡ carried_into S w (take i.start s) o) where
     first_is : x ≡ size_of (other S) (t.width f)
     first_is = first ∙ rw (across, wide)
 
-    laid : e ≡ lay (carried S (t.width f) (take a s)) o
+    laid : e ≡ lay (carried S (t.width f) (take i.start s)) o
     laid =
-        digits ∙ ap (λ (q : ℕ). carried_into S q (take a s) o) wide ∙ carried_placed S (t.width f) (take a s) o digits_good
-        ∙ placed_fits (carried S (t.width f) (take a s)) o (size_of (other S) (t.width f)) digits_carried_long (omega (arith, room, across_is))
+        digits ∙ ap (λ (q : ℕ). carried_into S q (take i.start s) o) wide ∙ carried_placed S (t.width f) (take i.start s) o digits_good
+        ∙ placed_fits (carried S (t.width f) (take i.start s)) o (size_of (other S) (t.width f)) digits_carried_long (omega (arith, room, across_is))
 
-    pub item_carried_lem : g ≡ lay (content_carried S c n (take (a + k - a) (drop a s))) (mid_of x (length e - x) e) → put_mid x (length e - x) e g ≡ lay (item_carried S t f a n k s) o
+    pub item_carried_lem : g ≡ lay (content_carried S c i.count (take (i.start + i.size - i.start) (drop i.start s))) (mid_of x (length e - x) e) → put_mid x (length e - x) e g ≡ lay (item_carried S t f i.start i.count i.size s) o
     unfolding item_carried
     item_carried_lem h =
-        lay_part (carried S (t.width f) (take a s)) (content_carried S (t.class f) n (take k (drop a s))) o e g x laid (digits_carried_long ∙ sym first_is)
-        (h ∙ rw (add-sub_cancel_left a k, classed))
+        lay_part (carried S (t.width f) (take i.start s)) (content_carried S (t.class f) i.count (take i.size (drop i.start s))) o e g x laid (digits_carried_long ∙ sym first_is)
+        (h ∙ rw (add-sub_cancel_left i.start i.size, classed))
 
 -- by a table that is lent, what a field takes in the other script is a small number
-pub item_small : (S : Script) (cs : List ℕ) (f : ℕ) (s : List ℕ) (a n k j : ℕ) → judge_item S (decoded cs) f s ≡ Found a n k j → j ≤ 1026
+pub item_small : (S : Script) (cs : List ℕ) (f : ℕ) (s : List ℕ) (i : Item) → judge_item S (decoded cs) f s ≡ Ok i → i.carried ≤ 1026
 unfolding decoded
-item_small S cs f s a n k j e =
-    let p = (good_judged S (decoded cs) f s a n k j e).place in
-    omega (arith, across_small (other S) ((decoded cs).class f) ((decoded cs).width f) ((decoded cs).most f) n _ _ (omega arith) (most_small cs f ((decoded cs).most f) refl) p.short refl refl, p.across)
+item_small S cs f s i e =
+    let p = (good_judged S (decoded cs) f s i.start i.count i.size i.carried e).place in
+    omega (arith, across_small (other S) ((decoded cs).class f) ((decoded cs).width f) ((decoded cs).most f) i.count _ _ (omega arith) (most_small cs f ((decoded cs).most f) refl) p.short refl refl, p.across)

@@ -7,24 +7,24 @@ use native.Mathlib.Omega.{arith}
 use lib.ListN.{length, take, drop, length-append, length-drop}
 use lib.Seq.{length-take-le}
 use borrow.Rule.Slice.PartMut.{mid_of, put_mid}
+use Rattle.std.specs.Prelude.{Ok}
 use Rattle.octets.specs.Lists.{lay, placed}
 use Rattle.octets.proofs.Lists.{placed_fits}
 use Rattle.octets.proofs.Parts.{lay_part, placed_part}
 use Rattle.field_table.specs.Table.{Table}
 use Rattle.bitmap.specs.Bitmaps.{fields_of}
-use Rattle.bitmap_read.specs.declared.BitmapsRead.TheVariants.{Count}
 use Rattle.bitmap_read.specs.Found.{maps_of}
 use Rattle.packed_field.specs.declared.Script.{Script}
 use Rattle.packed_field.specs.Scripts.{other, size_of, carried, carried_into}
 use Rattle.packed_field.proofs.Scripts.{carried_long, carried_placed}
-use Rattle.packed_link.specs.declared.Judged.TheVariants.{Good}
+use Rattle.packed_link.specs.declared.Translated.{Translated}
 use Rattle.packed_link.specs.Link.{link_head, fields_judged, fields_carried, body_judged, body_carried}
 use Rattle.packed_link.proofs.Fields.{carried_counted}
 use Rattle.packed_link.proofs.Heads.{mti_small, head_few, head_room, head_mti}
 use Rattle.packed_link.proofs.Answers.{body_is, carried_is}
 
 -- a is where the bitmaps start, x where they do in the other script, as the code has them
-module _ (S : Script) (t : Table) (s fs out : List ℕ) (k : ℕ) (head : link_head S 3 s ≡ Count k) (listed : fs ≡ fields_of (maps_of (size_of S 4) s k) k) (a : ℕ) (is-a : a ≡ size_of S 4) where
+module _ (S : Script) (t : Table) (s fs out : List ℕ) (k : ℕ) (head : link_head S 3 s ≡ Ok k) (listed : fs ≡ fields_of (maps_of (size_of S 4) s k) k) (a : ℕ) (is-a : a ≡ size_of S 4) where
   pub few : k ≤ 3
   few = head_few S 3 s k (omega arith) head
 
@@ -34,7 +34,7 @@ module _ (S : Script) (t : Table) (s fs out : List ℕ) (k : ℕ) (head : link_h
   pub inside : a + 8 * k ≤ length s
   inside = omega (arith, head_room S 3 s k (omega arith) head, is-a)
 
-  module _ (X : Script) (is-X : X ≡ other S) (x : ℕ) (is_x : x ≡ size_of X 4) (u w : ℕ) (good : body_judged S t s k ≡ Good u w) (room : w ≤ length out) where
+  module _ (X : Script) (is-X : X ≡ other S) (x : ℕ) (is_x : x ≡ size_of X 4) (d : Translated) (good : body_judged S t s k ≡ Ok d) (room : d.written ≤ length out) where
     x_is : x ≡ size_of (other S) 4
     x_is = is_x ∙ ap (λ (y : Script). size_of y 4) is-X
 
@@ -44,11 +44,11 @@ module _ (S : Script) (t : Table) (s fs out : List ℕ) (k : ℕ) (head : link_h
     abbrev fields : List ℕ
     fields = fields_carried S t fs (drop (a + 8 * k) s)
 
-    pub fields_good : fields_judged S t (a + 8 * k) (x + 8 * k) fs (drop (a + 8 * k) s) ≡ Good u w
+    pub fields_good : fields_judged S t (a + 8 * k) (x + 8 * k) fs (drop (a + 8 * k) s) ≡ Ok d
     fields_good = body_is S t s fs k listed (a + 8 * k) (x + 8 * k) (ap (λ (y : ℕ). y + 8 * k) is-a) (ap (λ (y : ℕ). y + 8 * k) x_is) ∙ good
 
     pub fields_room : x + 8 * k + length fields ≤ length out
-    fields_room = omega (arith, carried_counted S t (a + 8 * k) (x + 8 * k) fs (drop (a + 8 * k) s) u w fields_good, room)
+    fields_room = omega (arith, carried_counted S t (a + 8 * k) (x + 8 * k) fs (drop (a + 8 * k) s) d fields_good, room)
 
     abbrev mti : List ℕ
     mti = carried S 4 (take (size_of S 4) s)

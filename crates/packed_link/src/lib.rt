@@ -11,27 +11,19 @@ ghost use Rattle.packed_field.specs.Scripts.{size_of, other};
 ghost use Rattle.packed_field.specs.Items.{is_content, judge_item, content_size};
 ghost use Rattle.packed_link.specs.Link.{told_link, mti_fault, link_head, content_carried, item_carried, fields_judged, fields_carried, body_judged, body_carried, link_answer, link_output};
 
-use bitmap_read::BitmapsRead;
 use field_table::Class;
 use packed_field::{Item, Script};
-use refusal::Refusal;
+use refusal::{Cause, Refusal, check_room};
 
-// The bytes used of the input and the bytes written, or the refusal.
+// How many bytes of the input are used, and how many the other script takes.
 #[derive(Clone, Copy)]
-pub enum Translated {
-    Done { used: usize, written: usize },
-    Refused(Refusal),
-}
-
-// What judging finds: the bytes used and the bytes to be written, or the refusal. It is open since theorems above name it.
-#[derive(Clone, Copy)]
-pub enum Judged {
-    Good { used: usize, written: usize },
-    Refused(Refusal),
+pub struct Translated {
+    pub used: usize,
+    pub written: usize,
 }
 
 // Takes the plain message at the front of the input and writes its packed form to the front of out. A refusal leaves out as it was.
-pub fn pack(plain: &[u8], out: &mut [u8]) -> Translated
+pub fn pack(plain: &[u8], out: &mut [u8]) -> Result<Translated, Refusal>
     ensures answers { result ≡ link_answer Script.Plain house 3 plain.now out.old }
     ensures tells { told_link result ≡ told_link (link_answer Script.Plain house 3 plain.now out.old) }
     ensures writes { out.new ≡ link_output Script.Plain house 3 plain.now out.old }
@@ -41,7 +33,7 @@ pub fn pack(plain: &[u8], out: &mut [u8]) -> Translated
 }
 
 // Takes the packed message at the front of the input and writes its plain form to the front of out. A refusal leaves out as it was.
-pub fn unpack(packed: &[u8], out: &mut [u8]) -> Translated
+pub fn unpack(packed: &[u8], out: &mut [u8]) -> Result<Translated, Refusal>
     ensures answers { result ≡ link_answer Script.Packed house 3 packed.now out.old }
     ensures tells { told_link result ≡ told_link (link_answer Script.Packed house 3 packed.now out.old) }
     ensures writes { out.new ≡ link_output Script.Packed house 3 packed.now out.old }
@@ -51,14 +43,17 @@ pub fn unpack(packed: &[u8], out: &mut [u8]) -> Translated
 }
 
 // Carries a message in that script over into the other, by the table lent.
-fn translate(input: &[u8], script: Script, table: &[u16], out: &mut [u8]) -> Translated
+fn translate(
+    input: &[u8],
+    script: Script,
+    table: &[u16],
+    out: &mut [u8],
+) -> Result<Translated, Refusal>
     ensures answers { result ≡ link_answer script (decoded table.now) 3 input.now out.old }
     ensures writes { out.new ≡ link_output script (decoded table.now) 3 input.now out.old }
 {
-    match read_head(input, script) {
-        BitmapsRead::Refused(refusal) => Translated::Refused(refusal),
-        BitmapsRead::Count(bitmaps) => translate_fields(input, bitmaps, script, table, out),
-    }
+    let bitmaps = read_head(input, script)?;
+    translate_fields(input, bitmaps, script, table, out)
 }
 
 // The same behind a good head: lists the fields that its bitmaps name.
@@ -68,8 +63,8 @@ fn translate_fields(
     script: Script,
     table: &[u16],
     out: &mut [u8],
-) -> Translated
-    requires { link_head script 3 input.now ≡ BitmapsRead.Count bitmaps }
+) -> Result<Translated, Refusal>
+    requires { link_head script 3 input.now ≡ Ok bitmaps }
     ensures answers { result ≡ link_answer script (decoded table.now) 3 input.now out.old }
     ensures writes { out.new ≡ link_output script (decoded table.now) 3 input.now out.old }
 {
@@ -89,8 +84,8 @@ fn translate_listed(
     script: Script,
     table: &[u16],
     out: &mut [u8],
-) -> Translated
-    requires headed { link_head script 3 input.now ≡ BitmapsRead.Count bitmaps }
+) -> Result<Translated, Refusal>
+    requires headed { link_head script 3 input.now ≡ Ok bitmaps }
     requires listed { fields.now ≡ fields_of (maps_of (size_of script 4) input.now bitmaps) bitmaps }
     ensures answers { result ≡ link_answer script (decoded table.now) 3 input.now out.old }
     ensures writes { out.new ≡ link_output script (decoded table.now) 3 input.now out.old }
@@ -98,51 +93,33 @@ fn translate_listed(
     let maps = 8 * bitmaps;
     let start = packed_field::size_of(script, 4) + maps;
     let before = packed_field::size_of(packed_field::other_script(script), 4) + maps;
-    match judge_fields(input, start, before, fields, script, table) {
-        Judged::Refused(refusal) => Translated::Refused(refusal),
-        Judged::Good { used, written } => {
-            if out.len() < written {
-                return Translated::Refused(Refusal {
-                    number: refusal::OUTPUT_TOO_SHORT,
-                    field: 0,
-                    position: 0,
-                });
-            }
-            write_message(input, bitmaps, fields, script, table, out);
-            Translated::Done { used, written }
-        }
-    }
+    let judged = judge_fields(input, start, before, fields, script, table)?;
+    check_room(judged.written, out)?;
+    write_message(input, bitmaps, fields, script, table, out);
+    Ok(judged)
 }
 
 // Reads the MTI and finds how many bitmaps there are.
-fn read_head(input: &[u8], script: Script) -> BitmapsRead
+fn read_head(input: &[u8], script: Script) -> Result<usize, Refusal>
     ensures { result ≡ link_head script 3 input.now }
 {
     let start = packed_field::size_of(script, 4);
     if input.len() < start + 8 {
-        return BitmapsRead::Refused(Refusal {
-            number: refusal::MESSAGE_TOO_SHORT,
-            field: 0,
-            position: 0,
-        });
+        return Err(Cause::MessageTooShort.into());
     }
     let good = packed_field::lead_parts(&input[..start], script);
     if good < start {
-        return BitmapsRead::Refused(Refusal {
-            number: mti_fault(script),
-            field: 0,
-            position: good,
-        });
+        return Err(mti_fault(script).at(0, good));
     }
     bitmap_read::read_bitmaps(input, start)
 }
 
-fn mti_fault(script: Script) -> u8
+fn mti_fault(script: Script) -> Cause
     ensures { result ≡ mti_fault script }
 {
     match script {
-        Script::Plain => refusal::MTI_NOT_DIGITS,
-        Script::Packed => refusal::NOT_BCD,
+        Script::Plain => Cause::MtiNotDigits,
+        Script::Packed => Cause::NotBcd,
     }
 }
 
@@ -155,7 +132,7 @@ fn judge_fields(
     fields: &[u8],
     script: Script,
     table: &[u16],
-) -> Judged
+) -> Result<Translated, Refusal>
     requires start_in_bounds { start ≤ length input.now }
     requires before_bound { before ≤ 28 }
     requires few { length fields.now ≤ 192 }
@@ -163,30 +140,17 @@ fn judge_fields(
 {
     let mut at = start;
     let mut written = before;
-    let mut i: usize = 0;
-    while i < fields.len() {
-        let field = octets::wide(fields[i]);
+    for field in fields {
+        let field = usize::from(*field);
         match packed_field::judge_item(&input[at..], field, script, table) {
-            Item::Refused(number) => {
-                return Judged::Refused(Refusal {
-                    number,
-                    field,
-                    position: at,
-                });
-            }
-            Item::Found {
-                start,
-                count: _,
-                size,
-                carried,
-            } => {
-                at = at + (start + size);
-                written += carried;
-                i += 1;
+            Err(cause) => return Err(cause.at(field, at)),
+            Ok(item) => {
+                at += item.start + item.size;
+                written += item.carried;
             }
         }
     }
-    Judged::Good { used: at, written }
+    Ok(Translated { used: at, written })
 }
 
 // Writes MTI, bitmaps and fields, each behind the last. All of them are known to be good, and to fit.
@@ -198,9 +162,9 @@ fn write_message(
     table: &[u16],
     out: &mut [u8],
 )
-    requires headed { link_head script 3 input.now ≡ BitmapsRead.Count bitmaps }
+    requires headed { link_head script 3 input.now ≡ Ok bitmaps }
     requires listed { fields.now ≡ fields_of (maps_of (size_of script 4) input.now bitmaps) bitmaps }
-    requires judged { (u w : ℕ) × ((body_judged script (decoded table.now) input.now bitmaps ≡ Judged.Good u w) × (w ≤ length out.old)) }
+    requires judged { (d : Translated) × ((body_judged script (decoded table.now) input.now bitmaps ≡ Ok d) × (d.written ≤ length out.old)) }
     ensures { out.new ≡ lay (body_carried script (decoded table.now) input.now bitmaps) out.old }
 {
     let start = packed_field::size_of(script, 4);
@@ -224,63 +188,48 @@ fn write_fields(
     out: &mut [u8],
 )
     requires start_in_bounds { start ≤ length input.now }
-    requires judged { (x u w : ℕ) × (fields_judged script (decoded table.now) start x fields.now (drop start input.now) ≡ Judged.Good u w) }
+    requires judged { (x : ℕ) × ((d : Translated) × (fields_judged script (decoded table.now) start x fields.now (drop start input.now) ≡ Ok d)) }
     requires room { length (fields_carried script (decoded table.now) fields.now (drop start input.now)) ≤ length out.old }
     ensures { out.new ≡ lay (fields_carried script (decoded table.now) fields.now (drop start input.now)) out.old }
 {
     let mut at = start;
     let mut written: usize = 0;
-    let mut i: usize = 0;
-    while i < fields.len() {
-        let field = octets::wide(fields[i]);
-        match packed_field::place_item(&input[at..], field, script, table) {
-            Item::Refused(_) => {
-                return;
-            }
-            Item::Found {
-                start,
-                count,
-                size,
-                carried,
-            } => {
-                carry_item(
-                    &input[at..],
-                    field,
-                    start,
-                    count,
-                    size,
-                    script,
-                    table,
-                    &mut out[written..],
-                );
-                at = at + (start + size);
-                written += carried;
-                i += 1;
-            }
-        }
+    for field in fields {
+        let field = usize::from(*field);
+        let Ok(item) = packed_field::place_item(&input[at..], field, script, table) else {
+            return;
+        };
+        carry_item(
+            &input[at..],
+            field,
+            item,
+            script,
+            table,
+            &mut out[written..],
+        );
+        at += item.start + item.size;
+        written += item.carried;
     }
 }
 
-// Writes a good field in the other script: its length digits take start bytes of the rest, its content the next size bytes.
-fn carry_item(
-    rest: &[u8],
-    number: usize,
-    start: usize,
-    count: usize,
-    size: usize,
-    script: Script,
-    table: &[u16],
-    out: &mut [u8],
-)
-    requires { (j : ℕ) × ((judge_item script (decoded table.now) number rest.now ≡ Item.Found start count size j) × (j ≤ length out.old)) }
-    ensures { out.new ≡ lay (item_carried script (decoded table.now) number start count size rest.now) out.old }
+// Writes a good field in the other script.
+fn carry_item(rest: &[u8], number: usize, item: Item, script: Script, table: &[u16], out: &mut [u8])
+    requires judged { judge_item script (decoded table.now) number rest.now ≡ Ok item }
+    requires room { item.carried ≤ length out.old }
+    ensures { out.new ≡ lay (item_carried script (decoded table.now) number item.start item.count item.size rest.now) out.old }
 {
     let width = field_table::width_in(table, number);
-    packed_field::carry(&rest[..start], script, width, out);
+    packed_field::carry(&rest[..item.start], script, width, out);
     let first = packed_field::size_of(packed_field::other_script(script), width);
     let class = field_table::class_in(table, number);
-    let end = start + size;
-    carry_content(&rest[start..end], class, count, script, &mut out[first..]);
+    let end = item.start + item.size;
+    carry_content(
+        &rest[item.start..end],
+        class,
+        item.count,
+        script,
+        &mut out[first..],
+    );
 }
 
 // Writes a good content in the other script.

@@ -1,15 +1,13 @@
 -- One law for each end, in Answers, over the table that is lent.
-use Prim.Native.Nat.{ℕ, ◌+◌, ◌*◌}
-use mathlib.Core.Path.{sym, ap, ◌∙◌}
+use mathlib.Core.Path.{refl, ap}
 use native.Mathlib.Omega.{arith}
 use lib.ListN.{length}
 use Rattle.field_table.specs.Codes.{decoded}
 use Rattle.bitmap.proofs.Fields.{fields_few}
 use Rattle.bitmap_read.specs.Found.{maps_of}
-use Rattle.packed_field.specs.declared.Script.{Script}
 use Rattle.packed_field.specs.Scripts.{size_of}
 use Rattle.packed_link.proofs.Heads.{mti_small, head_few, head_room}
-use Rattle.packed_link.proofs.Answers.{ends_refused, ends_short, ends_done, body_said}
+use Rattle.packed_link.proofs.Answers.{fits, ends_refused, ends_short, ends_done, body_said}
 use Rattle.packed_link.proofs.translate_listed.Goals as goal
 
 pub overflow_mul-maps : goal.overflow_mul-maps
@@ -30,36 +28,25 @@ judge_fields-requires c = let f = head_few _ _ _ _ (omega arith) c.requires.head
       few = omega (arith, f, ap length c.requires.listed, fields_few (maps_of (size_of c.args.script 4) c.args.input.now c.args.bitmaps) c.args.bitmaps 3 (omega arith) f);
     }
 
-pub returns-then-out-written : goal.returns-then-out-written
-returns-then-out-written c =
-    let body = body_said _ (decoded c.args.table.now) _ _ _ c.requires.listed _ _ _ _ c.size_of.ensures c.other_script.ensures c.size_of-2.ensures c.judge_fields.ensures in
-    let e = ends_short _ _ _ _ _ _ c.requires.headed _ _ (body ∙ c.in-Good.is) c.if-out-written.true in
+pub returns-in_err-judged : goal.returns-in_err-judged
+returns-in_err-judged c =
+    let e = ends_refused _ _ _ _ _ _ c.requires.headed c.from_residual.ensures.1 (body_said _ (decoded c.args.table.now) _ _ _ c.requires.listed _ _ _ _ c.size_of.ensures c.other_script.ensures c.size_of-2.ensures c.in_err-judged.ensures) in
+    record { answers = e.answer; writes = e.output }
+
+pub returns-in_err-check_room : goal.returns-in_err-check_room
+returns-in_err-check_room c =
+    let e = ends_short _ _ _ _ _ _ c.requires.headed _ (body_said _ (decoded c.args.table.now) _ _ _ c.requires.listed _ _ _ _ c.size_of.ensures c.other_script.ensures c.size_of-2.ensures c.in_ok-judged.ensures) c.from_residual-in_err-check_room.ensures.1 c.in_err-check_room.ensures in
     record { answers = e.answer; writes = e.output }
 
 pub write_message-requires : goal.write_message-requires
 write_message-requires c =
-    let body = body_said _ (decoded c.args.table.now) _ _ _ c.requires.listed _ _ _ _ c.size_of.ensures c.other_script.ensures c.size_of-2.ensures c.judge_fields.ensures in
     record {
       headed = c.requires.headed;
       listed = c.requires.listed;
-      judged = (
-        _,
-        _,
-        (
-          body ∙ c.in-Good.is,
-          c.if-out-written.false,
-        ),
-      );
+      judged = (_, (body_said _ (decoded c.args.table.now) _ _ _ c.requires.listed _ _ _ _ c.size_of.ensures c.other_script.ensures c.size_of-2.ensures c.in_ok-judged.ensures, fits _ _ c.in_ok-check_room.ensures));
     }
 
-pub returns-in-Refused : goal.returns-in-Refused
-returns-in-Refused c =
-    let body = body_said _ (decoded c.args.table.now) _ _ _ c.requires.listed _ _ _ _ c.size_of.ensures c.other_script.ensures c.size_of-2.ensures c.judge_fields.ensures in
-    let e = ends_refused _ _ _ _ _ _ c.requires.headed _ (body ∙ c.in-Refused.is) in
-    record { answers = e.answer; writes = e.output }
-
-pub returns-else-out-written : goal.returns-else-out-written
-returns-else-out-written c =
-    let body = body_said _ (decoded c.args.table.now) _ _ _ c.requires.listed _ _ _ _ c.size_of.ensures c.other_script.ensures c.size_of-2.ensures c.judge_fields.ensures in
-    let e = ends_done _ _ _ _ _ _ c.requires.headed _ _ (body ∙ c.in-Good.is) c.if-out-written.false _ c.write_message.ensures in
+pub returns : goal.returns
+returns c =
+    let e = ends_done _ _ _ _ _ _ c.requires.headed _ (body_said _ (decoded c.args.table.now) _ _ _ c.requires.listed _ _ _ _ c.size_of.ensures c.other_script.ensures c.size_of-2.ensures c.in_ok-judged.ensures) refl (fits _ _ c.in_ok-check_room.ensures) _ c.write_message.ensures in
     record { answers = e.answer; writes = e.output }
