@@ -13,13 +13,13 @@ use Rattle.message_language.specs.Language.{Entry, entry}
 use Rattle.message_notes.specs.Dialect.{Form, note_size, head_size}
 use Rattle.message_notes.specs.Notes.{count_in, note_at}
 use Rattle.message_notes.specs.declared.Note.{Note}
-use Rattle.message_notes.specs.declared.Note.TheVariants.{Field as FieldNote, End as EndNote, Malformed}
+use Rattle.message_notes.specs.declared.Note.TheVariants.{Field as FieldNote}
 use Rattle.message_walk.specs.declared.Judged.{Judged}
 use Rattle.message_walk.specs.declared.Judged.TheVariants.{Passed, End}
 use Rattle.message_walk.specs.declared.Flaw.{Flaw}
 use Rattle.message_walk.specs.declared.Ended.{Ended}
 use Rattle.message_walk.specs.Walk.{ended, Fault, judged, passed, ending, listed_from, listed_in}
-use Rattle.message_walk.proofs.Steps.{Good, passing, note_whole, ending_bad, ending_end, ending_more, passed_end, passed_more, listed_malformed, listed_end, listed_more}
+use Rattle.message_walk.proofs.Steps.{by_note, Good, passing, note_whole, ending_bad, ending_end, ending_more, passed_end, passed_more, listed_malformed, listed_end, listed_more}
 
 -- A loop that judges: it has come to the place `at` and the number `last`, the whole walk ends as the rest of it does, and P holds of the
 -- entries still to come.
@@ -134,11 +134,13 @@ module _ {F : Form} {n : List ℕ} {P : List Entry → Type 0} {at : ℕ} {o : N
   holds_there : P (listed_from F (suc j) (drop at n))
   holds_there = subst (λ (q : ℕ). P (listed_from F q (drop at n))) (omega (arith, c.loop.inside, c.loop.left)) c.loop.holds
 
-  pub read_malformed : o ≡ Malformed → P []
-  read_malformed is = subst P (listed_malformed F j (drop at n) (is_note ∙ is)) holds_there
-
-  pub read_end : {u : ℕ} → o ≡ EndNote u → P []
-  read_end {u} is = subst P (listed_end F j (drop at n) u (is_note ∙ is)) holds_there
+  -- a note that is no field's ends it
+  pub read_done : ((f a z : ℕ) → o ≡ FieldNote f a z → ⊥) → P []
+  read_done not =
+      by_note o
+      (λ is. subst P (listed_malformed F j (drop at n) (is_note ∙ is)) holds_there)
+      (λ u is. subst P (listed_end F j (drop at n) u (is_note ∙ is)) holds_there)
+      (λ f a z is. absurd (not f a z is))
 
   module _ {f a z : ℕ} (is : o ≡ FieldNote f a z) where
     pub read_room : at + note_size F ≤ length n
