@@ -1,17 +1,15 @@
--- The bitmaps of an input: the ends of `read_bitmaps` with the facts as the code has them, and what it means that bitmaps are found.
--- Assumes nothing.
+-- What it means that bitmaps of an input are found. Assumes nothing.
 use Prim.Native.Nat.{ℕ, ◌+◌, ◌-◌, ◌*◌, ◌/◌, ◌≤◌, ◌<◌}
-use mathlib.Core.Path.{◌≡◌, sym, ap, ◌∙◌}
-use mathlib.Core.Bool.{Bool, true, false, not}
+use mathlib.Core.Path.{◌≡◌, sym, ◌∙◌}
+use mathlib.Core.Bool.{true, false}
 use mathlib.Core.List.{List}
 use native.Mathlib.Omega.{arith}
 use lib.ListN.{length, take, drop}
 use lib.Seq.{get_or-take}
 use lib.Dec.{leb}
+use borrow.Author.Tests.{lt-ltb, le-ltb, le-leb, leb-true}
 use Rattle.std.specs.Prelude.{Result, Ok, Err}
-use borrow.Author.Tests.{lt-ltb, le-ltb, le-leb, leb-true, not-true, not-false}
 use Rattle.octets.proofs.Cases.{by_bool, by_lt}
-use Rattle.octets.proofs.Parts.{to_end}
 use Rattle.refusal.specs.Numbers.{bitmap_incomplete, bitmap_over_most}
 use Rattle.refusal.specs.Refusals.{refusal}
 use Rattle.refusal.specs.declared.Refusal.{Refusal}
@@ -19,43 +17,6 @@ use Rattle.bitmap.specs.Bits.{bit_of}
 use Rattle.bitmap.specs.Bitmaps.{count_of}
 use Rattle.bitmap.proofs.Maps.{count_least, count_most}
 use Rattle.bitmap_read.specs.Found.{maps_of, bitmaps_read}
-
--- the ends of `read_bitmaps`: its bitmaps are the part of the input from a on
-module _ (s : List ℕ) (a : ℕ) where
-  pub maps_no_first : (r : Refusal) → length s - a < 8 → r ≡ refusal bitmap_incomplete 0 a → Err r ≡ bitmaps_read a 3 s
-  unfolding bitmaps_read
-  maps_no_first r h e = rw (e, lt-ltb (length s) (a + 8) (omega arith))
-
-  module _ (one : 8 ≤ length s - a) (flag : Bool) (first : flag ≡ bit_of (take (length s - a) (drop a s)) 1) where
-    first_is : flag ≡ bit_of (drop a s) 1
-    first_is = first ∙ ap (λ (l : List ℕ). bit_of l 1) (to_end a s)
-
-    pub maps_one : not flag ≡ true → Ok 1 ≡ bitmaps_read a 3 s
-    unfolding bitmaps_read
-    maps_one t = rw (le-ltb (length s) (a + 8) (omega arith), ← first_is, not-true flag t)
-
-    module _ (on : not flag ≡ false) where
-      pub maps_no_second : (r : Refusal) → length s - a < 16 → r ≡ refusal bitmap_incomplete 0 (a + 8) → Err r ≡ bitmaps_read a 3 s
-      unfolding bitmaps_read
-      maps_no_second r h e = rw (e, le-ltb (length s) (a + 8) (omega arith), ← first_is, not-false flag on, lt-ltb (length s) (a + 16) (omega arith))
-
-      module _ (two : 16 ≤ length s - a) (flag2 : Bool) (second : flag2 ≡ bit_of (take (length s - a) (drop a s)) 65) where
-        second_is : flag2 ≡ bit_of (drop a s) 65
-        second_is = second ∙ ap (λ (l : List ℕ). bit_of l 65) (to_end a s)
-
-        pub maps_two : not flag2 ≡ true → Ok 2 ≡ bitmaps_read a 3 s
-        unfolding bitmaps_read
-        maps_two t = rw (le-ltb (length s) (a + 8) (omega arith), ← first_is, not-false flag on, le-ltb (length s) (a + 16) (omega arith), ← second_is, not-true flag2 t)
-
-        pub maps_no_third : (r : Refusal) → not flag2 ≡ false → length s - a < 24 → r ≡ refusal bitmap_incomplete 0 (a + 16) → Err r ≡ bitmaps_read a 3 s
-        unfolding bitmaps_read
-        maps_no_third r t h e =
-            rw (e, le-ltb (length s) (a + 8) (omega arith), ← first_is, not-false flag on, le-ltb (length s) (a + 16) (omega arith), ← second_is, not-false flag2 t, lt-ltb (length s) (a + 24) (omega arith))
-
-        pub maps_three : not flag2 ≡ false → 24 ≤ length s - a → Ok 3 ≡ bitmaps_read a 3 s
-        unfolding bitmaps_read
-        maps_three t h =
-            rw (le-ltb (length s) (a + 8) (omega arith), ← first_is, not-false flag on, le-ltb (length s) (a + 16) (omega arith), ← second_is, not-false flag2 t, le-ltb (length s) (a + 24) (omega arith))
 
 -- What it means that k bitmaps are found, the first at a, where at most m are taken.
 pub record FoundMaps (a m : ℕ) (s : List ℕ) (k : ℕ) : Type 0 where

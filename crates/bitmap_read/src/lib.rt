@@ -7,6 +7,7 @@ ghost use Rattle.bitmap_read.specs.Found.{bitmaps_read};
 use refusal::{Cause, Refusal};
 
 // Finds how many bitmaps an input has, the first at start, each of them whole.
+#[tactic(auto, unfolding(crate::specs::Found::bitmaps_read), using(octets::proofs::Parts::to_end))]
 pub fn read_bitmaps(input: &[u8], start: usize) -> Result<usize, Refusal>
     ensures { result ≡ bitmaps_read start 3 input.now }
 {

@@ -4,19 +4,19 @@ use mathlib.Core.Path.{◌≡◌, refl, sym, ap, ◌∙◌}
 use mathlib.Core.Bool.{true}
 use mathlib.Core.List.{List}
 use native.Mathlib.Omega.{arith}
-use Rattle.std.specs.Prelude.{Result, Ok, Err}
 use lib.ListN.{length, take, drop}
 use borrow.Author.Tests.{lt-ltb, le-ltb}
+use Rattle.std.specs.Prelude.{Result, Ok, Err}
 use Rattle.octets.specs.Lists.{either, all}
 use Rattle.octets.specs.Numbers.{is_digit, is_ascii}
 use Rattle.octets.proofs.Cases.{by_bool, by_lt}
 use Rattle.refusal.specs.Numbers.{past_the_end, length_not_digits, length_over_table, text_not_ascii}
+use Rattle.refusal.specs.declared.Cause.{Cause}
 use Rattle.field_table.specs.Table.{Table, is_binary}
 use Rattle.field_table.specs.declared.Class.{Class}
 use Rattle.field_table.specs.declared.Class.TheVariants.{B}
-use Rattle.refusal.specs.declared.Cause.{Cause}
-use Rattle.field_read.specs.declared.Content.{Content}
 use Rattle.field_read.specs.Items.{content_at, length_of, read_sized, read_item, read_field, place_field}
+use Rattle.field_read.specs.declared.Content.{Content}
 
 never : (o : Result Content Cause) (k : Cause) (a n : ℕ) → o ≡ Err k → o ≡ Ok (content_at a n) → ⊥
 never o k a n p q = let z : ◌≡◌ {A = ℕ} 0 1 = cc in omega arith

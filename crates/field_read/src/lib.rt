@@ -21,6 +21,7 @@ pub struct Content {
 // Reads field number at the front of rest by the table lent, whatever it holds; the caller knows where rest stands in the message, and
 // adds field and position to a refusal. A number that the table has no field for is read as an empty content: which numbers are fields,
 // the bitmaps say.
+#[tactic(auto, unfolding(crate::specs::Items::read_field))]
 pub fn read_field(rest: &[u8], number: usize, table: &[u16]) -> Result<Content, Cause>
     ensures { result ≡ read_field (decoded table.now) number rest.now }
 {
@@ -32,6 +33,7 @@ pub fn read_field(rest: &[u8], number: usize, table: &[u16]) -> Result<Content, 
 
 // Finds the content of field number and asks about none of its bytes: where read_field answers 8, it answers the content's place; else
 // the same.
+#[tactic(auto, unfolding(crate::specs::Items::place_field))]
 pub fn place_field(rest: &[u8], number: usize, table: &[u16]) -> Result<Content, Cause>
     ensures { result ≡ place_field (decoded table.now) number rest.now }
 {
@@ -41,6 +43,7 @@ pub fn place_field(rest: &[u8], number: usize, table: &[u16]) -> Result<Content,
 }
 
 // Reads a field with that many length digits, that length or greatest length, and that class.
+#[tactic(auto, unfolding(crate::specs::Items::read_item, crate::specs::Items::read_sized))]
 fn read_item(rest: &[u8], width: usize, most: usize, class: Class) -> Result<Content, Cause>
     requires { width ≤ 3 }
     ensures { result ≡ read_item width most class rest.now }
@@ -70,6 +73,7 @@ fn read_item(rest: &[u8], width: usize, most: usize, class: Class) -> Result<Con
 }
 
 // How long the content is: as the table says where there are no digits, else as they say.
+#[tactic(auto, unfolding(crate::specs::Items::length_of), using(octets::proofs::Numbers::number_read))]
 fn content_length(digits: &[u8], width: usize, most: usize) -> usize
     requires { length digits.now ≤ 3 }
     ensures { result ≡ length_of width most digits.now }

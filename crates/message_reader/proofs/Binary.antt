@@ -13,17 +13,17 @@ use Rattle.octets.proofs.Cases.{by_bool}
 use Rattle.refusal.specs.Numbers.{number_of, text_not_ascii}
 use Rattle.refusal.specs.Refusals.{refusal}
 use Rattle.refusal.specs.declared.Refusal.{Refusal}
+use Rattle.refusal.specs.declared.Cause.{Cause}
 use Rattle.field_table.specs.Table.{Table, is_binary}
 use Rattle.field_table.specs.declared.Class.{Class}
 use Rattle.field_read.specs.Items.{length_of, read_sized, read_item, read_field}
+use Rattle.field_read.specs.declared.Content.{Content}
 use Rattle.bitmap.specs.Bits.{bit_of}
 use Rattle.bitmap.specs.Bitmaps.{fields_of}
 use Rattle.bitmap_read.specs.Found.{maps_of, bitmaps_read}
 use Rattle.message_notes.specs.Dialect.{Dialect, notes_room}
-use Rattle.refusal.specs.declared.Cause.{Cause}
-use Rattle.field_read.specs.declared.Content.{Content}
-use Rattle.message_reader.proofs.Results.{by_result, never, same_err}
 use Rattle.message_reader.specs.Reader.{head_read, read_fields, read_body, read_message, read_answer}
+use Rattle.message_reader.proofs.Results.{by_result, never, same_err}
 use Rattle.message_reader.proofs.Fields.{by_read, fields_refused, fields_read}
 use Rattle.message_reader.proofs.Language.{message_head_refused, message_refused, message_read}
 

@@ -9,14 +9,14 @@ use borrow.Author.Tests.{eq-eqb, ne_eqb}
 use Rattle.std.specs.Prelude.{Result, Ok, Err}
 use Rattle.octets.proofs.Cases.{by_bool, by_eq}
 use Rattle.refusal.specs.Refusals.{refusal}
+use Rattle.refusal.specs.declared.Cause.{Cause}
 use Rattle.field_table.specs.Table.{Table, is_binary}
 use Rattle.field_read.specs.Items.{content_at, length_of, read_field, place_field}
+use Rattle.field_read.specs.declared.Content.{Content}
 use Rattle.field_read.proofs.Found.{Found, found, reads, read_placed}
 use Rattle.message_language.specs.Language.{Item, Entry, entry, Fields, none, more}
-use Rattle.refusal.specs.declared.Cause.{Cause}
-use Rattle.field_read.specs.declared.Content.{Content}
-use Rattle.message_reader.proofs.Results.{never}
 use Rattle.message_reader.specs.Reader.{read_fields, entry_found, entries_of}
+use Rattle.message_reader.proofs.Results.{never}
 
 -- one field more
 module _ (t : Table) (at f : ℕ) (fs s : List ℕ) where

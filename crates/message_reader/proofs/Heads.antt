@@ -1,40 +1,22 @@
--- The head of a message: the ends of its reader with the facts as the code has them, and what it means that a head is read.
--- Assumes nothing.
-use Prim.Native.Nat.{ℕ, ◌≤◌, ◌<◌}
-use mathlib.Core.Path.{◌≡◌, refl, sym, ◌∙◌}
+-- The head of a message: what it means that it is read. Assumes nothing.
+use Prim.Native.Nat.{ℕ, ◌≤◌}
+use mathlib.Core.Path.{◌≡◌, sym, ◌∙◌}
 use mathlib.Core.Bool.{true}
 use mathlib.Core.List.{List}
 use native.Mathlib.Omega.{arith}
 use lib.ListN.{length, take}
 use lib.Seq.{length-take-le}
 use borrow.Author.Tests.{lt-ltb, le-ltb, eq-eqb, eqb-true}
-use Rattle.std.specs.Prelude.{Result, Ok, Err}
+use Rattle.std.specs.Prelude.{Ok}
 use Rattle.octets.specs.Lists.{all, lead}
 use Rattle.octets.specs.Numbers.{is_digit}
 use Rattle.octets.proofs.Cases.{by_lt}
 use Rattle.octets.proofs.Lists.{lead_all, lead_most}
 use Rattle.refusal.specs.Numbers.{message_too_short, mti_not_digits}
 use Rattle.refusal.specs.Refusals.{refusal, plain}
-use Rattle.refusal.specs.declared.Refusal.{Refusal}
-use Rattle.bitmap_read.specs.Found.{bitmaps_read}
 use Rattle.bitmap_read.proofs.Found.{FoundMaps, maps_least, maps_found, maps_read}
-use Rattle.message_reader.proofs.Results.{never}
 use Rattle.message_reader.specs.Reader.{head_read}
-
--- the ends of `read_head`
-module _ (m : ℕ) (s : List ℕ) where
-  pub head_short : length s < 12 → Err (plain message_too_short) ≡ head_read m s
-  unfolding head_read
-  head_short h = rw (lt-ltb (length s) 12 h)
-
-  module _ (long : 12 ≤ length s) (n : ℕ) (is : n ≡ lead is_digit (take 4 s)) where
-    pub head_no_digit : n < 4 → Err (refusal mti_not_digits 0 n) ≡ head_read m s
-    unfolding head_read
-    head_no_digit h = rw (le-ltb (length s) 12 long, ← is, lt-ltb n 4 h)
-
-    pub head_maps : (r : Result ℕ Refusal) → 4 ≤ n → r ≡ bitmaps_read 4 m s → r ≡ head_read m s
-    unfolding head_read
-    head_maps r h e = rw (le-ltb (length s) 12 long, ← is, le-ltb n 4 h) e
+use Rattle.message_reader.proofs.Results.{never}
 
 -- What it means that a head with k bitmaps is read, where at most m are taken.
 pub record Headed (m : ℕ) (s : List ℕ) (k : ℕ) : Type 0 where
@@ -55,6 +37,13 @@ of_digits s h t =
     let e : lead is_digit (take 4 s) ≡ length (take 4 s) = eqb-true (lead is_digit (take 4 s)) (length (take 4 s)) (lead_all is_digit (take 4 s) ∙ t) in
     omega (arith, four s h)
 
+pub head_reads : (m : ℕ) (s : List ℕ) (k : ℕ) → Headed m s k → head_read m s ≡ Ok k
+unfolding head_read
+head_reads m s k h =
+    let long : 12 ≤ length s = omega (arith, h.maps.long, maps_least 4 m s k h.maps) in
+    let mti : 4 ≤ lead is_digit (take 4 s) = of_digits s long h.digits in
+    rw (le-ltb (length s) 12 long, le-ltb (lead is_digit (take 4 s)) 4 mti) (maps_read 4 m s k h.maps)
+
 pub head_found : (m : ℕ) (s : List ℕ) (k : ℕ) → 2 ≤ m → head_read m s ≡ Ok k → Headed m s k
 unfolding head_read
 head_found m s k least e =
@@ -66,9 +55,3 @@ head_found m s k least e =
       digits = digits_of_lem s long mti;
       maps = maps_found 4 m s k least (rw (le-ltb (length s) 12 long, le-ltb (lead is_digit (take 4 s)) 4 mti) at e);
     }))
-
-pub head_reads : (m : ℕ) (s : List ℕ) (k : ℕ) → Headed m s k → head_read m s ≡ Ok k
-head_reads m s k h =
-    let long : 12 ≤ length s = omega (arith, h.maps.long, maps_least 4 m s k h.maps) in
-    let mti : 4 ≤ lead is_digit (take 4 s) = of_digits s long h.digits in
-    sym (head_maps m s long (lead is_digit (take 4 s)) refl (Ok k) mti (sym (maps_read 4 m s k h.maps)))

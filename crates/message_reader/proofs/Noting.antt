@@ -11,8 +11,10 @@ use Rattle.std.specs.Prelude.{Result, Ok, Err}
 use Rattle.octets.specs.Lists.{lay, placed}
 use Rattle.octets.proofs.Lists.{lay_length}
 use Rattle.octets.proofs.Parts.{to_end, Written, written_none, written_more, written_end}
+use Rattle.refusal.specs.declared.Cause.{Cause}
 use Rattle.field_table.specs.Table.{Table}
 use Rattle.field_read.specs.Items.{content_at, read_field, place_field}
+use Rattle.field_read.specs.declared.Content.{Content}
 use Rattle.bitmap.specs.Bitmaps.{fields_of}
 use Rattle.bitmap.proofs.Fields.{fields_few, fields_in_lem}
 use Rattle.bitmap_read.specs.Found.{maps_of}
@@ -20,8 +22,6 @@ use Rattle.message_language.specs.Language.{Entry}
 use Rattle.message_notes.specs.Dialect.{Form, note_size, Dialect, dialect, plain_form}
 use Rattle.message_notes.specs.Notes.{field_note, field_notes}
 use Rattle.message_notes.proofs.Sizes.{field_long, fields_long}
-use Rattle.refusal.specs.declared.Cause.{Cause}
-use Rattle.field_read.specs.declared.Content.{Content}
 use Rattle.message_reader.specs.Reader.{read_fields, entry_found, entries_of, read_body, reading_with}
 use Rattle.message_reader.proofs.Turns.{Met, met}
 use Rattle.message_reader.proofs.Fields.{fields_read, first_placed, entries_refused, entries_read, entries_most, read_within}

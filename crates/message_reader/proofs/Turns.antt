@@ -10,11 +10,11 @@ use native.Mathlib.Numerals.{add-one}
 use Rattle.std.specs.Prelude.{Result, Ok, Err}
 use Rattle.octets.proofs.Parts.{to_end}
 use Rattle.refusal.specs.Refusals.{refusal}
+use Rattle.refusal.specs.declared.Cause.{Cause}
+use Rattle.refusal.specs.declared.Refusal.{Refusal}
 use Rattle.field_table.specs.Table.{Table}
 use Rattle.field_read.specs.Items.{content_at, read_field}
-use Rattle.refusal.specs.declared.Cause.{Cause}
 use Rattle.field_read.specs.declared.Content.{Content}
-use Rattle.refusal.specs.declared.Refusal.{Refusal}
 use Rattle.message_reader.specs.Reader.{read_fields}
 use Rattle.message_reader.proofs.Fields.{fields_refused, fields_read, read_within}
 

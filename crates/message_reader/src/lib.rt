@@ -72,6 +72,7 @@ fn read_listed(
 }
 
 // Reads the MTI and finds how many bitmaps there are.
+#[tactic(auto, unfolding(crate::specs::Reader::head_read))]
 fn read_head(message: &[u8]) -> Result<usize, Refusal>
     ensures { result ≡ head_read (dialect house).most message.now }
 {
