@@ -5,16 +5,19 @@ use mathlib.Core.Path.{◌≡◌, refl, sym, ap, ◌∙◌}
 use mathlib.Core.List.{List, [], ◌∷◌, ◌++◌, append_assoc}
 use native.Mathlib.Omega.{arith}
 use lib.ListN.{length, take, drop, length-append}
+use Rattle.std.specs.Prelude.{Ok, Err}
 use Rattle.octets.specs.Numbers.{decimal}
+use Rattle.refusal.specs.Refusals.{refusal}
 use Rattle.field_table.specs.Table.{Table, Small}
 use Rattle.message_contents.specs.Contents.{Content, content, numbers_in}
 use Rattle.packed_field.specs.declared.Script.{Script}
-use Rattle.packed_field.specs.declared.Item.TheVariants.{Found, Refused as ItemRefused}
+use Rattle.packed_field.specs.declared.Item.{Item}
 use Rattle.packed_field.specs.Scripts.{other, size_of, spelt_in}
-use Rattle.packed_field.specs.Items.{content_size, judge_item}
-use Rattle.packed_link.specs.declared.Judged.TheVariants.{Good}
-use Rattle.packed_link.specs.Link.{item_carried, fields_judged, fields_carried}
-use Rattle.packed_link.proofs.Fields.{fields_refused, fields_good, carried_good, never, by_item}
+use Rattle.packed_field.specs.Items.{content_size, item_at, judge_item}
+use Rattle.packed_link.specs.declared.Translated.{Translated}
+use Rattle.packed_link.specs.Link.{translated, item_carried, fields_judged, fields_carried}
+use Rattle.packed_link.proofs.Fields.{fields_refused, fields_good, carried_good}
+use Rattle.message_reader.proofs.Results.{by_result, never, same_ok}
 use Rattle.packed_language.specs.Packed.{Allowed, AllAllowed, none, more}
 use Rattle.packed_trips.proofs.Forms.{content_in, fields_in}
 use Rattle.packed_trips.proofs.Items.{length_sized, content_sized, content_out, item_found, item_across, item_read, item_behind, item_allowed, item_form, item_out, item_takes}
@@ -24,14 +27,14 @@ unfoldable pub contents_read : Script → Table → List ℕ → List ℕ → Li
 contents_read S t [] s = []
 contents_read S t (f ∷ fs) s =
     elim (judge_item S t f s) [
-      | ItemRefused n ↦ []
-      | Found a n k j ↦ content f (content_out S (t.class f) n (take k (drop a s))) ∷ contents_read S t fs (drop (a + k) s)
+      | Err c ↦ []
+      | Ok i ↦ content f (content_out S (t.class f) i.count (take i.size (drop i.start s))) ∷ contents_read S t fs (drop (i.start + i.size) s)
     ]
 
-contents_good : (S : Script) (t : Table) (f : ℕ) (fs s : List ℕ) (a n k j : ℕ) → judge_item S t f s ≡ Found a n k j
-    → contents_read S t (f ∷ fs) s ≡ content f (content_out S (t.class f) n (take k (drop a s))) ∷ contents_read S t fs (drop (a + k) s)
+contents_good : (S : Script) (t : Table) (f : ℕ) (fs s : List ℕ) (i : Item) → judge_item S t f s ≡ Ok i
+    → contents_read S t (f ∷ fs) s ≡ content f (content_out S (t.class f) i.count (take i.size (drop i.start s))) ∷ contents_read S t fs (drop (i.start + i.size) s)
 unfolding contents_read
-contents_good S t f fs s a n k j e = rw (contents_read, e)
+contents_good S t f fs s i e = rw (contents_read, e)
 
 -- Sound.
 pub record Taken (S : Script) (t : Table) (at : ℕ) (fs s : List ℕ) (u : ℕ) (cs : List Content) : Type 0 where
@@ -45,49 +48,49 @@ pub record Taken (S : Script) (t : Table) (at : ℕ) (fs s : List ℕ) (u : ℕ)
 regroup : (a b c d : List ℕ) → a ++ (b ++ (c ++ d)) ≡ (a ++ (b ++ c)) ++ d
 regroup a b c d = sym (append_assoc a (b ++ c) d ∙ ap (λ (l : List ℕ). a ++ l) (append_assoc b c d))
 
-taken_more : (S : Script) (t : Table) → Small t → (at f : ℕ) (fs s : List ℕ) (u a n k j : ℕ) (cs : List Content) → judge_item S t f s ≡ Found a n k j
-    → Taken S t (at + (a + k)) fs (drop (a + k) s) u cs → Taken S t at (f ∷ fs) s u (content f (content_out S (t.class f) n (take k (drop a s))) ∷ cs)
+taken_more : (S : Script) (t : Table) → Small t → (at f : ℕ) (fs s : List ℕ) (u : ℕ) (i : Item) (cs : List Content) → judge_item S t f s ≡ Ok i
+    → Taken S t (at + (i.start + i.size)) fs (drop (i.start + i.size) s) u cs → Taken S t at (f ∷ fs) s u (content f (content_out S (t.class f) i.count (take i.size (drop i.start s))) ∷ cs)
 unfolding numbers_in fields_in
-taken_more S t small at f fs s u a n k j cs e r =
-    let c = content_out S (t.class f) n (take k (drop a s)) in
+taken_more S t small at f fs s u i cs e r =
+    let c = content_out S (t.class f) i.count (take i.size (drop i.start s)) in
     let A = spelt_in S (decimal (t.width f) (length c)) in
     let B = content_in S (t.class f) c in
     let A' = spelt_in (other S) (decimal (t.width f) (length c)) in
     let B' = content_in (other S) (t.class f) c in
-    let long : length (A ++ (B ++ fields_in S t cs)) ≡ a + k + length (fields_in S t cs) =
-    ap length (sym (append_assoc A B (fields_in S t cs))) ∙ length-append (A ++ B) (fields_in S t cs) ∙ ap (λ (x : ℕ). x + length (fields_in S t cs)) (item_takes S t small f s a n k j e) in
+    let long : length (A ++ (B ++ fields_in S t cs)) ≡ i.start + i.size + length (fields_in S t cs) =
+    ap length (sym (append_assoc A B (fields_in S t cs))) ∙ length-append (A ++ B) (fields_in S t cs) ∙ ap (λ (x : ℕ). x + length (fields_in S t cs)) (item_takes S t small f s i.start i.count i.size i.carried e) in
     record {
       numbers = ap (λ (l : List ℕ). f ∷ l) r.numbers;
-      allowed = more {c = content f c} {cs = cs} (item_allowed S t small f s a n k j e) r.allowed;
+      allowed = more {c = content f c} {cs = cs} (item_allowed S t small f s i.start i.count i.size i.carried e) r.allowed;
       after = r.after;
-      joined = item_form S t small f s a n k j e ∙ ap (λ (l : List ℕ). A ++ (B ++ l)) r.joined ∙ regroup A B (fields_in S t cs) r.after;
+      joined = item_form S t small f s i.start i.count i.size i.carried e ∙ ap (λ (l : List ℕ). A ++ (B ++ l)) r.joined ∙ regroup A B (fields_in S t cs) r.after;
       long = omega (arith, long, r.long);
       across =
-          carried_good S t f fs s a n k j e
-          ∙ ap (λ (l : List ℕ). l ++ fields_carried S t fs (drop (a + k) s)) (item_out S t small f s a n k j e)
+          carried_good S t f fs s i e
+          ∙ ap (λ (l : List ℕ). l ++ fields_carried S t fs (drop (i.start + i.size) s)) (item_out S t small f s i.start i.count i.size i.carried e)
           ∙ ap (λ (l : List ℕ). (A' ++ B') ++ l) r.across
           ∙ append_assoc A' B' (fields_in (other S) t cs);
     }
 
-taken_none : (S : Script) (t : Table) (at w : ℕ) (s : List ℕ) (u v : ℕ) → fields_judged S t at w [] s ≡ Good u v → Taken S t at [] s u []
+taken_none : (S : Script) (t : Table) (at w : ℕ) (s : List ℕ) (u v : ℕ) → fields_judged S t at w [] s ≡ Ok (translated u v) → Taken S t at [] s u []
 unfolding fields_judged fields_carried numbers_in fields_in
 taken_none S t at w s u v e =
-    let z : at ≡ u = cc in
+    let z : at ≡ u = ap (λ (x : Translated). x.used) (same_ok e) in
     record { numbers = refl; allowed = none; after = s; joined = refl; long = omega arith; across = refl }
 
-pub taken : (S : Script) (t : Table) → Small t → (at w : ℕ) (fs s : List ℕ) (u v : ℕ) → fields_judged S t at w fs s ≡ Good u v → Taken S t at fs s u (contents_read S t fs s)
+pub taken : (S : Script) (t : Table) → Small t → (at w : ℕ) (fs s : List ℕ) (u v : ℕ) → fields_judged S t at w fs s ≡ Ok (translated u v) → Taken S t at fs s u (contents_read S t fs s)
 unfolding contents_read
 taken S t small at w [] s u v e = taken_none S t at w s u v e
 taken S t small at w (f ∷ fs) s u v e =
-    by_item (judge_item S t f s)
-    (λ n r. absurd (never _ u v n f at (fields_refused S t f fs s at w n r) e))
-    (λ a n k j r.
-    rw (contents_good S t f fs s a n k j r)
-    (taken_more S t small at f fs s u a n k j (contents_read S t fs (drop (a + k) s)) r (taken S t small (at + (a + k)) (w + j) fs (drop (a + k) s) u v (sym (fields_good S t f fs s a n k j r at w) ∙ e))))
+    by_result (judge_item S t f s)
+    (λ c r. never (refusal c f at) (fields_refused S t f fs s at w c r) e)
+    (λ i r.
+    rw (contents_good S t f fs s i r)
+    (taken_more S t small at f fs s u i (contents_read S t fs (drop (i.start + i.size) s)) r (taken S t small (at + (i.start + i.size)) (w + i.carried) fs (drop (i.start + i.size) s) u v (sym (fields_good S t f fs s i r at w) ∙ e))))
 
 -- Complete.
 pub record Given (S : Script) (t : Table) (at w : ℕ) (cs : List Content) (after : List ℕ) : Type 0 where
-  pub answer : fields_judged S t at w (numbers_in cs) (fields_in S t cs ++ after) ≡ Good (at + length (fields_in S t cs)) (w + length (fields_in (other S) t cs))
+  pub answer : fields_judged S t at w (numbers_in cs) (fields_in S t cs ++ after) ≡ Ok (translated (at + length (fields_in S t cs)) (w + length (fields_in (other S) t cs)))
   pub read : contents_read S t (numbers_in cs) (fields_in S t cs ++ after) ≡ cs
   pub across : fields_carried S t (numbers_in cs) (fields_in S t cs ++ after) ≡ fields_in (other S) t cs
 
@@ -96,7 +99,7 @@ unfolding fields_judged contents_read fields_carried numbers_in fields_in
 given_none S t at w after =
     let a : at ≡ at + 0 = omega arith in
     let b : w ≡ w + 0 = omega arith in
-    record { answer = λ i. Good (a i) (b i); read = refl; across = refl }
+    record { answer = λ i. Ok (translated (a i) (b i)); read = refl; across = refl }
 
 field_long : (S : Script) (t : Table) (f : ℕ) (c : List ℕ) (rest : List ℕ)
     → length (spelt_in S (decimal (t.width f) (length c)) ++ (content_in S (t.class f) c ++ rest)) ≡ size_of S (t.width f) + content_size S (t.class f) (length c) + length rest
@@ -125,14 +128,14 @@ given_more S t at w c cs after al r =
     let v : w + j + length (fields_in (other S) t cs) ≡ w + length (spelt_in (other S) (decimal (t.width f) (length b)) ++ (content_in (other S) (t.class f) b ++ fields_in (other S) t cs)) =
     omega (arith, field_long (other S) t f b (fields_in (other S) t cs)) in
     record {
-      answer = rw whole (fields_good S t f (numbers_in cs) s a (length b) k j e at w ∙ rw d (r.answer ∙ (λ i. Good (u i) (v i))));
+      answer = rw whole (fields_good S t f (numbers_in cs) s (item_at a (length b) k j) e at w ∙ rw d (r.answer ∙ (λ i. Ok (translated (u i) (v i)))));
       read =
           rw whole
-          (contents_good S t f (numbers_in cs) s a (length b) k j e ∙ rw d (ap (λ (l : List Content). content f (content_out S (t.class f) (length b) (take k (drop a s))) ∷ l) r.read)
+          (contents_good S t f (numbers_in cs) s (item_at a (length b) k j) e ∙ rw d (ap (λ (l : List Content). content f (content_out S (t.class f) (length b) (take k (drop a s))) ∷ l) r.read)
           ∙ ap (λ (l : List ℕ). content f l ∷ cs) (item_read S t f b rest al));
       across =
           rw whole
-          (carried_good S t f (numbers_in cs) s a (length b) k j e ∙ rw d
+          (carried_good S t f (numbers_in cs) s (item_at a (length b) k j) e ∙ rw d
           (ap (λ (l : List ℕ). item_carried S t f a (length b) k s ++ l) r.across
           ∙ ap (λ (l : List ℕ). l ++ fields_in (other S) t cs) (item_across S t f b rest al)
           ∙ append_assoc (spelt_in (other S) (decimal (t.width f) (length b))) (content_in (other S) (t.class f) b) (fields_in (other S) t cs)));

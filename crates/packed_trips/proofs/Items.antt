@@ -7,6 +7,7 @@ use native.Mathlib.Omega.{arith}
 use lib.ListN.{length, take, drop, length-append, length-drop, take-append-drop}
 use lib.Seq.{length-take-le, take_at, drop_at, drop-drop}
 use borrow.Author.Tests.{eq-eqb, ne_eqb}
+use Rattle.std.specs.Prelude.{Ok}
 use Rattle.octets.specs.Lists.{either, all}
 use Rattle.octets.specs.Numbers.{is_digit, is_ascii, decimal, decimal_of}
 use Rattle.octets.proofs.Cases.{by_bool, by_eq}
@@ -16,9 +17,8 @@ use Rattle.field_table.specs.Table.{Table, is_binary, Small}
 use Rattle.field_table.specs.declared.Class.{Class}
 use Rattle.field_read.specs.Items.{length_of}
 use Rattle.packed_field.specs.declared.Script.{Script}
-use Rattle.packed_field.specs.declared.Item.TheVariants.{Found}
 use Rattle.packed_field.specs.Scripts.{other, size_of, is_spelt, digits_of, spelt_in, carried}
-use Rattle.packed_field.specs.Items.{is_numeric, content_size, is_content, judge_item}
+use Rattle.packed_field.specs.Items.{is_numeric, content_size, is_content, item_at, judge_item}
 use Rattle.packed_field.proofs.Scripts.{digits_long, digits_are, spelt_again, spelling_long, spelling_good, spelling_back}
 use Rattle.packed_field.proofs.Found.{Good, judges_good, good_judged}
 use Rattle.packed_link.specs.Link.{content_carried, item_carried}
@@ -129,7 +129,7 @@ module _ (S : Script) (t : Table) (f : ℕ) (c rest : List ℕ) (al : Allowed t 
         content = rw content_front (content_good S k c al.digits al.item.text);
       }
 
-  pub item_found : judge_item S t f whole ≡ Found a n size across
+  pub item_found : judge_item S t f whole ≡ Ok (item_at a n size across)
   item_found = judges_good S t f whole a n size across good
 
   pub item_across : item_carried S t f a n size whole ≡ spelt_in (other S) (decimal w n) ++ content_in (other S) k c
@@ -153,7 +153,7 @@ empty (x ∷ l) h = absurd (omega arith)
 pub digit_ascii : (x : ℕ) → is_digit x ≡ true → is_ascii x ≡ true
 digit_ascii x h = is_between 0 0x7F x (omega arith) (omega (arith, between_high 0x30 0x39 x h))
 
-module _ (S : Script) (t : Table) (small : Small t) (f : ℕ) (s : List ℕ) (a n k j : ℕ) (found : judge_item S t f s ≡ Found a n k j) where
+module _ (S : Script) (t : Table) (small : Small t) (f : ℕ) (s : List ℕ) (a n k j : ℕ) (found : judge_item S t f s ≡ Ok (item_at a n k j)) where
   abbrev g : Good S t f s a n k j
   g = good_judged S t f s a n k j found
 

@@ -6,35 +6,21 @@ use mathlib.Core.List.{List, ◌++◌, append_assoc}
 use native.Mathlib.Omega.{arith}
 use lib.ListN.{length, take, drop, length-append, length-drop, take-append-drop}
 use lib.Seq.{length-take-le, take_at, drop_at, drop-drop}
-use Rattle.refusal.specs.declared.Refusal.{Refusal}
+use Rattle.std.specs.Prelude.{Ok}
 use Rattle.field_table.specs.Table.{Table, Small}
 use Rattle.bitmap.specs.Bitmaps.{count_of, fields_of}
-use Rattle.bitmap_read.specs.declared.BitmapsRead.{BitmapsRead}
-use Rattle.bitmap_read.specs.declared.BitmapsRead.TheVariants.{Count, Refused as HeadRefused}
 use Rattle.bitmap_read.specs.Found.{maps_of}
 use Rattle.message_contents.specs.Contents.{numbers_in}
+use Rattle.message_reader.proofs.Results.{by_result, never}
 use Rattle.packed_field.specs.declared.Script.{Script}
 use Rattle.packed_field.specs.Scripts.{other, size_of, is_spelt, digits_of, spelt_in, carried}
 use Rattle.packed_field.proofs.Scripts.{digits_long, digits_are, spelt_again, spelling_long, spelling_good, spelling_back}
-use Rattle.packed_link.specs.declared.Judged.{Judged}
-use Rattle.packed_link.specs.declared.Judged.TheVariants.{Good, Refused as JudgedBad}
-use Rattle.packed_link.specs.Link.{link_head, fields_judged, body_judged, body_carried, link_judged, link_carried}
+use Rattle.packed_link.specs.Link.{translated, link_head, fields_judged, body_judged, body_carried, link_judged, link_carried}
 use Rattle.packed_link.proofs.Fields.{carried_counted}
 use Rattle.packed_link.proofs.Heads.{Headed, head_found, head_reads}
 use Rattle.packed_language.specs.Packed.{Parts, IsMessage}
 use Rattle.packed_trips.proofs.Forms.{fields_in, bytes_in}
 use Rattle.packed_trips.proofs.Fields.{contents_read, Taken, taken, Given, given}
-
-never : (o : Judged) (r : Refusal) (u w : ℕ) → o ≡ JudgedBad r → o ≡ Good u w → ⊥
-never o r u w p q = let z : ◌≡◌ {A = ℕ} 0 1 = cc in omega arith
-
-pub by_head : {P : Type 0} (o : BitmapsRead) → ((r : Refusal) → o ≡ HeadRefused r → P) → ((k : ℕ) → o ≡ Count k → P) → P
-by_head (HeadRefused r) x y = x r refl
-by_head (Count k) x y = y k refl
-
-pub by_judged : {P : Type 0} (o : Judged) → ((r : Refusal) → o ≡ JudgedBad r → P) → ((u w : ℕ) → o ≡ Good u w → P) → P
-by_judged (JudgedBad r) x y = x r refl
-by_judged (Good u w) x y = y u w refl
 
 -- what an input with k bitmaps says
 unfoldable pub parts_read : Script → Table → List ℕ → ℕ → Parts
@@ -73,7 +59,7 @@ pub record Carried (S : Script) (t : Table) (m : ℕ) (s : List ℕ) (u w : ℕ)
   pub written : w ≡ length (bytes_in (other S) t p)
   pub output : link_carried S t m s ≡ bytes_in (other S) t p
 
-module _ (S : Script) (t : Table) (small : Small t) (m : ℕ) (least : 2 ≤ m) (s : List ℕ) (u w k : ℕ) (head : link_head S m s ≡ Count k) (good : body_judged S t s k ≡ Good u w) where
+module _ (S : Script) (t : Table) (small : Small t) (m : ℕ) (least : 2 ≤ m) (s : List ℕ) (u w k : ℕ) (head : link_head S m s ≡ Ok k) (good : body_judged S t s k ≡ Ok (translated u w)) where
   abbrev b : ℕ
   b = size_of S 4
 
@@ -86,7 +72,7 @@ module _ (S : Script) (t : Table) (small : Small t) (m : ℕ) (least : 2 ≤ m) 
   abbrev fs : List ℕ
   fs = fields_of (maps_of b s k) k
 
-  judged : fields_judged S t (b + 8 * k) (size_of (other S) 4 + 8 * k) fs rest ≡ Good u w
+  judged : fields_judged S t (b + 8 * k) (size_of (other S) 4 + 8 * k) fs rest ≡ Ok (translated u w)
   unfolding body_judged
   judged = good
 
@@ -121,16 +107,16 @@ module _ (S : Script) (t : Table) (small : Small t) (m : ℕ) (least : 2 ≤ m) 
             ∙ simp append_assoc;
         long = bytes_long S t p four ∙ omega (arith, ml, q.long);
         written =
-            carried_counted S t (b + 8 * k) (size_of (other S) 4 + 8 * k) fs rest u w judged
+            carried_counted S t (b + 8 * k) (size_of (other S) 4 + 8 * k) fs rest (translated u w) judged
             ∙ omega (arith, ap length q.across, ml, bytes_long (other S) t p four);
         output = rw (link_carried, head) (ap (λ (l : List ℕ). spelt_in (other S) (digits_of S 4 (take b s)) ++ (maps_of b s k ++ l)) q.across);
       }
 
-pub sound : (S : Script) (t : Table) → Small t → (m : ℕ) → 2 ≤ m → (s : List ℕ) (u w : ℕ) → link_judged S t m s ≡ Good u w → ((p : Parts) × Carried S t m s u w p)
+pub sound : (S : Script) (t : Table) → Small t → (m : ℕ) → 2 ≤ m → (s : List ℕ) (u w : ℕ) → link_judged S t m s ≡ Ok (translated u w) → ((p : Parts) × Carried S t m s u w p)
 unfolding link_judged
 sound S t small m least s u w e =
-    by_head (link_head S m s)
-    (λ r h. absurd (never _ r u w (rw (link_judged, h)) e))
+    by_result (link_head S m s)
+    (λ r h. never r (rw (link_judged, h)) e)
     (λ k h. (parts_read S t s k, carried_good S t small m least s u w k h (sym (rw (link_judged, h)) ∙ e)))
 
 -- Complete.
@@ -179,7 +165,7 @@ module _ (S : Script) (t : Table) (m : ℕ) (p : Parts) (is : IsMessage t m p) (
             };
       }
 
-  pub head_is : link_head S m s ≡ Count k
+  pub head_is : link_head S m s ≡ Ok k
   head_is = head_reads S m s k headed
 
   abbrev g : Given S t (d + 8 * k) (size_of (other S) 4 + 8 * k) p.contents after
@@ -188,12 +174,12 @@ module _ (S : Script) (t : Table) (m : ℕ) (p : Parts) (is : IsMessage t m p) (
   named : fields_of (maps_of d s k) k ≡ numbers_in p.contents
   named = ap (λ (l : List ℕ). fields_of l k) maps_are ∙ sym is.named
 
-  pub judged_good : link_judged S t m s ≡ Good (length (bytes_in S t p)) (length (bytes_in (other S) t p))
+  pub judged_good : link_judged S t m s ≡ Ok (translated (length (bytes_in S t p)) (length (bytes_in (other S) t p)))
   unfolding link_judged body_judged
   judged_good =
       let x : d + 8 * k + length (fields_in S t p.contents) ≡ length (bytes_in S t p) = omega (arith, bytes_long S t p is.four, is.whole) in
       let y : size_of (other S) 4 + 8 * k + length (fields_in (other S) t p.contents) ≡ length (bytes_in (other S) t p) = omega (arith, bytes_long (other S) t p is.four, is.whole) in
-      rw (link_judged, head_is, named, rest_is) (g.answer ∙ (λ i. Good (x i) (y i)))
+      rw (link_judged, head_is, named, rest_is) (g.answer ∙ (λ i. Ok (translated (x i) (y i))))
 
   pub carried_is : link_carried S t m s ≡ bytes_in (other S) t p
   unfolding link_carried body_carried bytes_in carried
@@ -208,6 +194,6 @@ module _ (S : Script) (t : Table) (m : ℕ) (p : Parts) (is : IsMessage t m p) (
 -- Unique.
 pub one_message : (S : Script) (t : Table) (m : ℕ) (p q : Parts) → IsMessage t m p → IsMessage t m q → (s a b : List ℕ) → s ≡ bytes_in S t p ++ a → s ≡ bytes_in S t q ++ b → p ≡ q
 one_message S t m p q ip iq s a b jp jq =
-    let e : Count (count_of p.maps) ≡ Count (count_of q.maps) = sym (head_is S t m p ip s a jp) ∙ head_is S t m q iq s b jq in
+    let e : Ok (count_of p.maps) ≡ Ok (count_of q.maps) = sym (head_is S t m p ip s a jp) ∙ head_is S t m q iq s b jq in
     let k : count_of p.maps ≡ count_of q.maps = cc in
     sym (said_again S t m p ip s a jp) ∙ ap (parts_read S t s) k ∙ said_again S t m q iq s b jq

@@ -8,42 +8,37 @@ use lib.Dec.{eqb, leb}
 use lib.ListN.{length, take, drop}
 use lib.Seq.{length-take-le}
 use borrow.Author.Tests.{lt-ltb, le-ltb, eq-eqb}
+use Rattle.std.specs.Prelude.{Result, Ok, Err}
 use Rattle.octets.specs.Lists.{between, either, all, lead}
 use Rattle.octets.specs.Numbers.{is_digit, is_ascii, are_digits, number}
 use Rattle.octets.proofs.Cases.{by_bool, by_lt, both_right, false_true}
 use Rattle.octets.proofs.Lists.{all_weaker}
-use Rattle.refusal.specs.Numbers.{message_too_short, bitmap_incomplete, past_the_end, length_not_digits, length_over_table, text_not_ascii, output_too_short, not_digits, bitmap_over_most}
+use Rattle.refusal.specs.Numbers.{number_of, message_too_short, bitmap_incomplete, past_the_end, length_not_digits, length_over_table, text_not_ascii, output_too_short, not_digits, bitmap_over_most}
 use Rattle.refusal.specs.Refusals.{refusal, plain}
+use Rattle.refusal.specs.declared.Cause.{Cause}
 use Rattle.refusal.specs.declared.Refusal.{Refusal}
 use Rattle.field_table.specs.Table.{Table, table_of, is_binary}
 use Rattle.field_table.specs.House.{house, house_rows}
 use Rattle.field_table.specs.declared.Class.{Class}
 use Rattle.field_table.specs.declared.Class.TheVariants.{N, A, An, Ans, Ns, Z, Xn, B}
-use Rattle.field_read.specs.Items.{length_of, read_sized, read_item, read_field}
-use Rattle.field_read.specs.declared.FieldRead.TheVariants.{Content, Refused as FieldRefused}
+use Rattle.field_read.specs.Items.{content_at, length_of, read_sized, read_item, read_field}
 use Rattle.field_read.proofs.Found.{reads}
 use Rattle.encoding_bcd.specs.Bcd.{spread, unpacked as digits_from, is_bcd, spare_zero, decode_fault}
 use Rattle.bitmap.specs.Bits.{bit_of}
 use Rattle.bitmap.specs.Bitmaps.{is_field, has_field, fields_from, fields_of}
 use Rattle.bitmap_read.specs.Found.{maps_of, bitmaps_read}
-use Rattle.bitmap_read.specs.declared.BitmapsRead.{BitmapsRead}
-use Rattle.bitmap_read.specs.declared.BitmapsRead.TheVariants.{Count, Refused as HeadRefused}
 use Rattle.message_reader.specs.Reader.{head_read}
+use Rattle.message_reader.proofs.Results.{by_result, never, same_err}
 use Rattle.packed_field.specs.declared.Script.{Script}
 use Rattle.packed_field.specs.declared.Script.TheVariants.{Plain, Packed}
 use Rattle.packed_field.specs.declared.Item.{Item}
-use Rattle.packed_field.specs.declared.Item.TheVariants.{Found, Refused as ItemRefused}
 use Rattle.packed_field.specs.Scripts.{other, size_of, is_spelt, is_part, digits_of}
-use Rattle.packed_field.specs.Items.{is_numeric, content_size, is_content, length_fault, content_fault, place_sized, place_by, place_item, judge_item}
+use Rattle.packed_field.specs.Items.{is_numeric, content_size, is_content, length_fault, content_fault, item_at, place_sized, place_by, place_item, judge_item}
 use Rattle.packed_field.proofs.Found.{good_judged}
-use Rattle.packed_link.specs.declared.Judged.TheVariants.{Refused as JudgedBad}
-use Rattle.packed_link.specs.declared.Translated.{Translated}
-use Rattle.packed_link.specs.declared.Translated.TheVariants.{Done, Refused}
 use Rattle.packed_link.specs.Link.{mti_fault, link_head, fields_judged, body_judged, link_judged, link_answer}
-use Rattle.packed_link.proofs.Fields.{fields_refused, fields_good, by_item}
+use Rattle.packed_link.proofs.Fields.{fields_refused, fields_good}
 use Rattle.packed_trips.specs.Refusals.{TakesOrEight, RefusesAsReader, BinaryNeverText, HouseRefuses, WorkedRefusals}
 use Rattle.packed_trips.proofs.Items.{digit_ascii}
-use Rattle.packed_trips.proofs.Messages.{by_head, by_judged}
 
 -- in the plain script a content takes a byte for each of its count
 size_plain : (c : Class) (n : ℕ) → content_size Plain c n ≡ n
@@ -77,21 +72,21 @@ content_read c n x g =
     (λ y. rw (numeric_text c y) (all_weaker is_digit is_ascii digit_ascii x (digits_of_lem n x (rw y at g))))
     (λ z. rw z at g)
 
-found_read : (t : Table) (f : ℕ) (s : List ℕ) (a n k j : ℕ) → judge_item Plain t f s ≡ Found a n k j → (read_field t f s ≡ Content a n) × (k ≡ n)
+found_read : (t : Table) (f : ℕ) (s : List ℕ) (i : Item) → judge_item Plain t f s ≡ Ok i → (read_field t f s ≡ Ok (content_at i.start i.count)) × (i.size ≡ i.count)
 unfolding read_field size_of digits_of
-found_read t f s a n k j e =
-    let g = good_judged Plain t f s a n k j e in
-    let q : k ≡ n = g.place.size ∙ size_plain (t.class f) n in
-    let st : a ≡ t.width f = g.place.start in (
-      reads (t.width f) (t.most f) (t.class f) s a n
+found_read t f s i e =
+    let g = good_judged Plain t f s i.start i.count i.size i.carried e in
+    let q : i.size ≡ i.count = g.place.size ∙ size_plain (t.class f) i.count in
+    let st : i.start ≡ t.width f = g.place.start in (
+      reads (t.width f) (t.most f) (t.class f) s i.start i.count
           record {
             start = st;
             whole = rw (← st) g.place.whole;
-            digits = rw (← st) (digits_of_lem (t.width f) (take a s) g.place.digits);
+            digits = rw (← st) (digits_of_lem (t.width f) (take i.start s) g.place.digits);
             is_n = g.place.is_n ∙ ap (λ (y : ℕ). length_of (t.width f) (t.most f) (take y s)) st;
             short = g.place.short;
             room = rw (← st, ← q) g.place.room;
-            text = rw (← st, ← q) (content_read (t.class f) n (take k (drop a s)) g.content);
+            text = rw (← st, ← q) (content_read (t.class f) i.count (take i.size (drop i.start s)) g.content);
           },
       q,
     )
@@ -109,13 +104,10 @@ unfolding is_content
 other_content c n x z = rw z
 
 -- what packing refuses, the reader refuses with the same number, unless it is 21
-same : (o : Item) (x y : ℕ) → o ≡ ItemRefused x → o ≡ ItemRefused y → x ≡ y
-same o x y p q = cc
+same : {A : Type 0} {c d : Cause} {o : Result A Cause} → o ≡ Err c → o ≡ Err d → c ≡ d
+same p q = same_err (sym p ∙ q)
 
-never : (o : Item) (x a n k j : ℕ) → o ≡ ItemRefused x → o ≡ Found a n k j → ⊥
-never o x a n k j p q = let z : ◌≡◌ {A = ℕ} 0 1 = cc in omega arith
-
-module _ (t : Table) (f : ℕ) (s : List ℕ) (x : ℕ) (e : judge_item Plain t f s ≡ ItemRefused x) (other : x ≡ not_digits → ⊥) where
+module _ (t : Table) (f : ℕ) (s : List ℕ) (x : Cause) (e : judge_item Plain t f s ≡ Err x) (other : x ≡ not_digits → ⊥) where
   abbrev w : ℕ
   w = t.width f
 
@@ -125,10 +117,10 @@ module _ (t : Table) (f : ℕ) (s : List ℕ) (x : ℕ) (e : judge_item Plain t 
   abbrev c : Class
   c = t.class f
 
-  ends : (y : ℕ) → judge_item Plain t f s ≡ ItemRefused y → read_field t f s ≡ FieldRefused y → read_field t f s ≡ FieldRefused x
-  ends y j r = r ∙ ap FieldRefused (same _ y x j e)
+  ends : (y : Cause) → judge_item Plain t f s ≡ Err y → read_field t f s ≡ Err y → read_field t f s ≡ Err x
+  ends y j r = r ∙ ap Err (same j e)
 
-  sized : w ≤ length s → all is_digit (take w s) ≡ true → (n : ℕ) → n ≡ length_of w m (take w s) → read_field t f s ≡ FieldRefused x
+  sized : w ≤ length s → all is_digit (take w s) ≡ true → (n : ℕ) → n ≡ length_of w m (take w s) → read_field t f s ≡ Err x
   unfolding judge_item place_item place_by place_sized size_of digits_of read_field read_item read_sized
   sized whole dg n is =
       let l : length (take w s) ≡ w = length-take-le w s whole in
@@ -141,23 +133,23 @@ module _ (t : Table) (f : ℕ) (s : List ℕ) (x : ℕ) (e : judge_item Plain t 
       (rw (le-ltb (length s) w whole, dg, ← is, le-ltb m n short, lt-ltb (length s - w) n h)))
       (λ room. by_bool (is_content Plain c n (take n (drop w s)))
       (λ g.
-      let q : judge_item Plain t f s ≡ Found w n n (size_of Packed w + content_size Packed c n) =
+      let q : judge_item Plain t f s ≡ Ok (item_at w n n (size_of Packed w + content_size Packed c n)) =
       rw (le-ltb (length s) w whole, sp, ← is, le-ltb m n short, size_plain c n, le-ltb (length s - w) n room, g) in
-      absurd (never _ x w n n (size_of Packed w + content_size Packed c n) e q))
+      never x e q)
       (λ g. judged whole sp dg n is short room g)))
     where
       judged : w ≤ length s → is_spelt Plain w (take w s) ≡ true → all is_digit (take w s) ≡ true → (n : ℕ) → n ≡ length_of w m (take w s) → n ≤ m → n ≤ length s - w
-          → is_content Plain c n (take n (drop w s)) ≡ false → read_field t f s ≡ FieldRefused x
+          → is_content Plain c n (take n (drop w s)) ≡ false → read_field t f s ≡ Err x
       judged whole sp dg n is short room g =
-          let j : judge_item Plain t f s ≡ ItemRefused (content_fault Plain c) =
+          let j : judge_item Plain t f s ≡ Err (content_fault Plain c) =
           rw (le-ltb (length s) w whole, sp, ← is, le-ltb m n short, size_plain c n, le-ltb (length s - w) n room, g) in
           by_bool (is_numeric c)
-          (λ y. absurd (other (sym (same _ (content_fault Plain c) x j e) ∙ numeric_fault c y)))
+          (λ y. absurd (other (sym (same j e) ∙ numeric_fault c y)))
           (λ z.
-          ends text_not_ascii (j ∙ ap ItemRefused (other_fault c z))
+          ends text_not_ascii (j ∙ ap Err (other_fault c z))
           (rw (le-ltb (length s) w whole, dg, ← is, le-ltb m n short, le-ltb (length s - w) n room, sym (other_content c n (take n (drop w s)) z) ∙ g)))
 
-  refused_read : read_field t f s ≡ FieldRefused x
+  refused_read : read_field t f s ≡ Err x
   unfolding judge_item place_item place_by size_of read_field read_item
   refused_read =
       by_lt (length s) w
@@ -170,7 +162,7 @@ module _ (t : Table) (f : ℕ) (s : List ℕ) (x : ℕ) (e : judge_item Plain t 
       ends length_not_digits (rw (le-ltb (length s) w whole, sp)) (rw (le-ltb (length s) w whole, nd))))
 
 -- where it is 21, the class is n, and the reader takes the field or says 8
-module _ (t : Table) (f : ℕ) (s : List ℕ) (e : judge_item Plain t f s ≡ ItemRefused not_digits) where
+module _ (t : Table) (f : ℕ) (s : List ℕ) (e : judge_item Plain t f s ≡ Err not_digits) where
   abbrev wd : ℕ
   wd = t.width f
 
@@ -183,18 +175,18 @@ module _ (t : Table) (f : ℕ) (s : List ℕ) (e : judge_item Plain t f s ≡ It
   abbrev Goal : Type 0
   Goal = (is_numeric cl ≡ true) × TakesOrEight (read_field t f s)
 
-  not_so : (y : ℕ) → judge_item Plain t f s ≡ ItemRefused y → (y ≡ not_digits → ⊥) → Goal
-  not_so y j n = absurd (n (same _ y not_digits j e))
+  not_so : (y : Cause) → judge_item Plain t f s ≡ Err y → (y ≡ not_digits → ⊥) → Goal
+  not_so y j n = absurd (n (same j e))
 
   with_content : wd ≤ length s → all is_digit (take wd s) ≡ true → (n : ℕ) → n ≡ length_of wd mt (take wd s) → n ≤ mt → n ≤ length s - wd → is_numeric cl ≡ true → Goal
   unfolding read_field read_item read_sized
   with_content whole dg n is short room y =
       by_bool (either (is_binary cl) (all is_ascii (take n (drop wd s))))
       (λ tx.
-      let r : read_field t f s ≡ Content wd n = rw (le-ltb (length s) wd whole, dg, ← is, le-ltb mt n short, le-ltb (length s - wd) n room, tx) in
+      let r : read_field t f s ≡ Ok (content_at wd n) = rw (le-ltb (length s) wd whole, dg, ← is, le-ltb mt n short, le-ltb (length s - wd) n room, tx) in
       (y, rw r tt))
       (λ tx.
-      let r : read_field t f s ≡ FieldRefused text_not_ascii = rw (le-ltb (length s) wd whole, dg, ← is, le-ltb mt n short, le-ltb (length s - wd) n room, tx) in
+      let r : read_field t f s ≡ Err text_not_ascii = rw (le-ltb (length s) wd whole, dg, ← is, le-ltb mt n short, le-ltb (length s - wd) n room, tx) in
       (y, rw r refl))
 
   with_length : wd ≤ length s → all is_digit (take wd s) ≡ true → (n : ℕ) → n ≡ length_of wd mt (take wd s) → Goal
@@ -202,31 +194,31 @@ module _ (t : Table) (f : ℕ) (s : List ℕ) (e : judge_item Plain t f s ≡ It
   with_length whole dg n is =
       let sp : is_spelt Plain wd (take wd s) ≡ true = spelt_by wd (take wd s) (length-take-le wd s whole) ∙ dg in
       by_lt mt n
-      (λ h. not_so length_over_table (rw (le-ltb (length s) wd whole, sp, ← is, lt-ltb mt n h)) (λ z. omega arith))
+      (λ h. not_so length_over_table (rw (le-ltb (length s) wd whole, sp, ← is, lt-ltb mt n h)) (λ z. omega (arith, ap number_of z)))
       (λ short. by_lt (length s - wd) n
-      (λ h. not_so past_the_end (rw (le-ltb (length s) wd whole, sp, ← is, le-ltb mt n short, size_plain cl n, lt-ltb (length s - wd) n h)) (λ z. omega arith))
+      (λ h. not_so past_the_end (rw (le-ltb (length s) wd whole, sp, ← is, le-ltb mt n short, size_plain cl n, lt-ltb (length s - wd) n h)) (λ z. omega (arith, ap number_of z)))
       (λ room. by_bool (is_content Plain cl n (take n (drop wd s)))
       (λ g.
-      let q : judge_item Plain t f s ≡ Found wd n n (size_of Packed wd + content_size Packed cl n) =
+      let q : judge_item Plain t f s ≡ Ok (item_at wd n n (size_of Packed wd + content_size Packed cl n)) =
       rw (le-ltb (length s) wd whole, sp, ← is, le-ltb mt n short, size_plain cl n, le-ltb (length s - wd) n room, g) in
-      absurd (never _ not_digits wd n n (size_of Packed wd + content_size Packed cl n) e q))
+      never not_digits e q)
       (λ g.
-      let j : judge_item Plain t f s ≡ ItemRefused (content_fault Plain cl) =
+      let j : judge_item Plain t f s ≡ Err (content_fault Plain cl) =
       rw (le-ltb (length s) wd whole, sp, ← is, le-ltb mt n short, size_plain cl n, le-ltb (length s - wd) n room, g) in
       by_bool (is_numeric cl)
       (λ y. with_content whole dg n is short room y)
-      (λ z. not_so text_not_ascii (j ∙ ap ItemRefused (other_fault cl z)) (λ q. omega arith)))))
+      (λ z. not_so text_not_ascii (j ∙ ap Err (other_fault cl z)) (λ q. omega (arith, ap number_of q))))))
 
   instead_read : Goal
   unfolding judge_item place_item place_by size_of
   instead_read =
       by_lt (length s) wd
-      (λ h. not_so past_the_end (rw (lt-ltb (length s) wd h)) (λ z. omega arith))
+      (λ h. not_so past_the_end (rw (lt-ltb (length s) wd h)) (λ z. omega (arith, ap number_of z)))
       (λ whole. by_bool (all is_digit (take wd s))
       (λ dg. with_length whole dg (length_of wd mt (take wd s)) refl)
       (λ nd.
       let sp : is_spelt Plain wd (take wd s) ≡ false = spelt_by wd (take wd s) (length-take-le wd s whole) ∙ nd in
-      not_so length_not_digits (rw (le-ltb (length s) wd whole, sp)) (λ z. omega arith)))
+      not_so length_not_digits (rw (le-ltb (length s) wd whole, sp)) (λ z. omega (arith, ap number_of z))))
 
 pub refuses_as_reader : (t : Table) (m : ℕ) → RefusesAsReader t m
 unfolding link_head head_read size_of is_part
@@ -243,108 +235,99 @@ binary_other Z y = absurd (false_true y)
 binary_other Xn y = absurd (false_true y)
 binary_other B y = refl
 
-length_fault_other : (S : Script) → length_fault S ≡ text_not_ascii → ⊥
+length_fault_other : (S : Script) → number_of (length_fault S) ≡ 8 → ⊥
 length_fault_other Plain e = omega (arith, e)
 length_fault_other Packed e = omega (arith, e)
 
-mti_fault_other : (S : Script) → mti_fault S ≡ text_not_ascii → ⊥
+mti_fault_other : (S : Script) → number_of (mti_fault S) ≡ 8 → ⊥
 mti_fault_other Plain e = omega (arith, e)
 mti_fault_other Packed e = omega (arith, e)
 
-place_never : (S : Script) (w m : ℕ) (c : Class) (s : List ℕ) → place_by S w m c s ≡ ItemRefused text_not_ascii → ⊥
+-- an answer with another number
+differs : {A : Type 0} {o : Result A Cause} (c : Cause) → (number_of c ≡ 8 → ⊥) → o ≡ Err c → o ≡ Err text_not_ascii → ⊥
+differs c n a b = n (ap number_of (same a b))
+
+place_never : (S : Script) (w m : ℕ) (c : Class) (s : List ℕ) → place_by S w m c s ≡ Err text_not_ascii → ⊥
 unfolding place_by place_sized
 place_never S w m c s e =
     by_lt (length s) (size_of S w)
-    (λ h. absurd (let z = same _ past_the_end text_not_ascii (rw (lt-ltb (length s) (size_of S w) h)) e in omega (arith, z)))
+    (λ h. differs past_the_end (λ z. omega (arith, z)) (rw (lt-ltb (length s) (size_of S w) h)) e)
     (λ whole. by_bool (is_spelt S w (take (size_of S w) s))
     (λ sp. sized whole sp (length_of w m (digits_of S w (take (size_of S w) s))) refl)
-    (λ nd. length_fault_other S (same _ (length_fault S) text_not_ascii (rw (le-ltb (length s) (size_of S w) whole, nd)) e)))
+    (λ nd. differs (length_fault S) (length_fault_other S) (rw (le-ltb (length s) (size_of S w) whole, nd)) e))
   where
     sized : size_of S w ≤ length s → is_spelt S w (take (size_of S w) s) ≡ true → (n : ℕ) → n ≡ length_of w m (digits_of S w (take (size_of S w) s)) → ⊥
     sized whole sp n is =
         by_lt m n
-        (λ h. absurd (let z = same _ length_over_table text_not_ascii (rw (le-ltb (length s) (size_of S w) whole, sp, ← is, lt-ltb m n h)) e in omega (arith, z)))
+        (λ h. differs length_over_table (λ z. omega (arith, z)) (rw (le-ltb (length s) (size_of S w) whole, sp, ← is, lt-ltb m n h)) e)
         (λ short. by_lt (length s - size_of S w) (content_size S c n)
-        (λ h. absurd (let z = same _ past_the_end text_not_ascii (rw (le-ltb (length s) (size_of S w) whole, sp, ← is, le-ltb m n short, lt-ltb (length s - size_of S w) (content_size S c n) h)) e in omega (arith, z)))
+        (λ h. differs past_the_end (λ z. omega (arith, z)) (rw (le-ltb (length s) (size_of S w) whole, sp, ← is, le-ltb m n short, lt-ltb (length s - size_of S w) (content_size S c n) h)) e)
         (λ room.
-        let q : place_by S w m c s ≡ Found (size_of S w) n (content_size S c n) (size_of (other S) w + content_size (other S) c n) =
+        let q : place_by S w m c s ≡ Ok (item_at (size_of S w) n (content_size S c n) (size_of (other S) w + content_size (other S) c n)) =
         rw (le-ltb (length s) (size_of S w) whole, sp, ← is, le-ltb m n short, le-ltb (length s - size_of S w) (content_size S c n) room) in
-        never _ text_not_ascii (size_of S w) n (content_size S c n) (size_of (other S) w + content_size (other S) c n) e q))
+        never text_not_ascii e q))
 
-item_never : (S : Script) (t : Table) (f : ℕ) (s : List ℕ) → is_binary (t.class f) ≡ true → judge_item S t f s ≡ ItemRefused text_not_ascii → ⊥
+item_never : (S : Script) (t : Table) (f : ℕ) (s : List ℕ) → is_binary (t.class f) ≡ true → judge_item S t f s ≡ Err text_not_ascii → ⊥
 unfolding judge_item is_content place_item
 item_never S t f s y e =
-    by_item (place_item S t f s)
-    (λ x h. place_never S (t.width f) (t.most f) (t.class f) s (h ∙ ap ItemRefused (same _ x text_not_ascii (rw h) e)))
-    (λ a n k j h. never _ text_not_ascii a n k j e (rw (h, binary_other (t.class f) y, y)))
+    by_result (place_item S t f s)
+    (λ x h. place_never S (t.width f) (t.most f) (t.class f) s (h ∙ ap Err (same (rw h) e)))
+    (λ i h. never text_not_ascii {x = i} e (rw (h, binary_other (t.class f) y, y)))
 
-fields_never : (S : Script) (t : Table) (f : ℕ) → is_binary (t.class f) ≡ true → (at w : ℕ) (fs s : List ℕ) (p : ℕ) → fields_judged S t at w fs s ≡ JudgedBad (refusal text_not_ascii f p) → ⊥
+fields_never : (S : Script) (t : Table) (f : ℕ) → is_binary (t.class f) ≡ true → (at w : ℕ) (fs s : List ℕ) (p : ℕ) → fields_judged S t at w fs s ≡ Err (refusal text_not_ascii f p) → ⊥
 unfolding fields_judged
-fields_never S t f y at w [] s p e = let z : ◌≡◌ {A = ℕ} 0 1 = cc in omega arith
+fields_never S t f y at w [] s p e = never (refusal text_not_ascii f p) e refl
 fields_never S t f y at w (g ∷ fs) s p e =
-    by_item (judge_item S t g s)
-    (λ n h.
-    let q : JudgedBad (refusal n g at) ≡ JudgedBad (refusal text_not_ascii f p) = sym (fields_refused S t g fs s at w n h) ∙ e in
-    let i : refusal n g at ≡ refusal text_not_ascii f p = cc in
+    by_result (judge_item S t g s)
+    (λ c h.
+    let i : refusal c g at ≡ refusal text_not_ascii f p = same_err (sym (fields_refused S t g fs s at w c h) ∙ e) in
     let k : g ≡ f = ap (λ (r : Refusal). r.field) i in
-    item_never S t g s (rw k y) (h ∙ ap (λ (r : Refusal). ItemRefused r.number) i))
-    (λ a n k j h. fields_never S t f y (at + (a + k)) (w + j) fs (drop (a + k) s) p (sym (fields_good S t g fs s a n k j h at w) ∙ e))
+    item_never S t g s (rw k y) (h ∙ ap (λ (r : Refusal). Err r.cause) i))
+    (λ i h. fields_never S t f y (at + (i.start + i.size)) (w + i.carried) fs (drop (i.start + i.size) s) p (sym (fields_good S t g fs s i h at w) ∙ e))
 
 -- a head's refusal has another number
-head_number_lem : (o : BitmapsRead) (x g q f p : ℕ) → o ≡ HeadRefused (refusal x g q) → o ≡ HeadRefused (refusal text_not_ascii f p) → x ≡ text_not_ascii
-head_number_lem o x g q f p a b = let e : refusal x g q ≡ refusal text_not_ascii f p = cc in ap (λ (r : Refusal). r.number) e
+refusal_differs : {A : Type 0} {o : Result A Refusal} {f p : ℕ} (r : Refusal) → (number_of r.cause ≡ 8 → ⊥) → o ≡ Err r → o ≡ Err (refusal text_not_ascii f p) → ⊥
+refusal_differs r n a b = n (ap (λ (x : Refusal). number_of x.cause) (same_err (sym a ∙ b)))
 
-head_count : (o : BitmapsRead) (k f p : ℕ) → o ≡ Count k → o ≡ HeadRefused (refusal text_not_ascii f p) → ⊥
-head_count o k f p a b = let z : ◌≡◌ {A = ℕ} 0 1 = cc in omega arith
-
-maps_never : (a m : ℕ) (s : List ℕ) (f p : ℕ) → bitmaps_read a m s ≡ HeadRefused (refusal text_not_ascii f p) → ⊥
+maps_never : (a m : ℕ) (s : List ℕ) (f p : ℕ) → bitmaps_read a m s ≡ Err (refusal text_not_ascii f p) → ⊥
 unfolding bitmaps_read
 maps_never a m s f p e =
     by_lt (length s) (a + 8)
-    (λ h. absurd (let z = head_number_lem _ bitmap_incomplete 0 a f p (rw (lt-ltb (length s) (a + 8) h)) e in omega (arith, z)))
+    (λ h. refusal_differs (refusal bitmap_incomplete 0 a) (λ z. omega (arith, z)) (rw (lt-ltb (length s) (a + 8) h)) e)
     (λ one. by_bool (bit_of (drop a s) 1)
     (λ b1. by_lt (length s) (a + 16)
-    (λ h. absurd (let z = head_number_lem _ bitmap_incomplete 0 (a + 8) f p (rw (le-ltb (length s) (a + 8) one, b1, lt-ltb (length s) (a + 16) h)) e in omega (arith, z)))
+    (λ h. refusal_differs (refusal bitmap_incomplete 0 (a + 8)) (λ z. omega (arith, z)) (rw (le-ltb (length s) (a + 8) one, b1, lt-ltb (length s) (a + 16) h)) e)
     (λ two. by_bool (bit_of (drop a s) 65)
     (λ b2. by_bool (leb 3 m)
     (λ l. by_lt (length s) (a + 24)
-    (λ h. absurd (let z = head_number_lem _ bitmap_incomplete 0 (a + 16) f p (rw (le-ltb (length s) (a + 8) one, b1, le-ltb (length s) (a + 16) two, b2, l, lt-ltb (length s) (a + 24) h)) e in omega (arith, z)))
-    (λ three. head_count _ 3 f p (rw (le-ltb (length s) (a + 8) one, b1, le-ltb (length s) (a + 16) two, b2, l, le-ltb (length s) (a + 24) three)) e))
-    (λ l. absurd (let z = head_number_lem _ bitmap_over_most 0 (a + 8) f p (rw (le-ltb (length s) (a + 8) one, b1, le-ltb (length s) (a + 16) two, b2, l)) e in omega (arith, z))))
-    (λ b2. head_count _ 2 f p (rw (le-ltb (length s) (a + 8) one, b1, le-ltb (length s) (a + 16) two, b2)) e)))
-    (λ b1. head_count _ 1 f p (rw (le-ltb (length s) (a + 8) one, b1)) e))
+    (λ h. refusal_differs (refusal bitmap_incomplete 0 (a + 16)) (λ z. omega (arith, z)) (rw (le-ltb (length s) (a + 8) one, b1, le-ltb (length s) (a + 16) two, b2, l, lt-ltb (length s) (a + 24) h)) e)
+    (λ three. never (refusal text_not_ascii f p) {x = 3} e (rw (le-ltb (length s) (a + 8) one, b1, le-ltb (length s) (a + 16) two, b2, l, le-ltb (length s) (a + 24) three))))
+    (λ l. refusal_differs (refusal bitmap_over_most 0 (a + 8)) (λ z. omega (arith, z)) (rw (le-ltb (length s) (a + 8) one, b1, le-ltb (length s) (a + 16) two, b2, l)) e))
+    (λ b2. never (refusal text_not_ascii f p) {x = 2} e (rw (le-ltb (length s) (a + 8) one, b1, le-ltb (length s) (a + 16) two, b2)))))
+    (λ b1. never (refusal text_not_ascii f p) {x = 1} e (rw (le-ltb (length s) (a + 8) one, b1))))
 
-head_never : (S : Script) (m : ℕ) (s : List ℕ) (f p : ℕ) → link_head S m s ≡ HeadRefused (refusal text_not_ascii f p) → ⊥
+head_never : (S : Script) (m : ℕ) (s : List ℕ) (f p : ℕ) → link_head S m s ≡ Err (refusal text_not_ascii f p) → ⊥
 unfolding link_head
 head_never S m s f p e =
     let a = size_of S 4 in
     let n = lead (is_part S) (take a s) in
     by_lt (length s) (a + 8)
-    (λ h. absurd (let z = head_number_lem _ message_too_short 0 0 f p (rw (lt-ltb (length s) (a + 8) h)) e in omega (arith, z)))
+    (λ h. refusal_differs (refusal message_too_short 0 0) (λ z. omega (arith, z)) (rw (lt-ltb (length s) (a + 8) h)) e)
     (λ long. by_lt n a
-    (λ h. mti_fault_other S (head_number_lem _ (mti_fault S) 0 n f p (rw (le-ltb (length s) (a + 8) long, lt-ltb n a h)) e))
+    (λ h. refusal_differs (refusal (mti_fault S) 0 n) (mti_fault_other S) (rw (le-ltb (length s) (a + 8) long, lt-ltb n a h)) e)
     (λ good. maps_never a m s f p (sym (rw (le-ltb (length s) (a + 8) long, le-ltb n a good)) ∙ e)))
 
-told_bad : (o : Translated) (r q : Refusal) → o ≡ Refused r → o ≡ Refused q → r ≡ q
-told_bad o r q a b = cc
-
-told_done : (o : Translated) (u w : ℕ) (q : Refusal) → o ≡ Done u w → o ≡ Refused q → ⊥
-told_done o u w q a b = let z : ◌≡◌ {A = ℕ} 0 1 = cc in omega arith
-
-told_number : (o : Translated) (x f p : ℕ) → o ≡ Refused (plain x) → o ≡ Refused (refusal text_not_ascii f p) → x ≡ text_not_ascii
-told_number o x f p a b = let e : plain x ≡ refusal text_not_ascii f p = cc in ap (λ (r : Refusal). r.number) e
-
-answer_never : (t : Table) (m f : ℕ) → is_binary (t.class f) ≡ true → (S : Script) (s out : List ℕ) (at : ℕ) → link_answer S t m s out ≡ Refused (refusal text_not_ascii f at) → ⊥
+answer_never : (t : Table) (m f : ℕ) → is_binary (t.class f) ≡ true → (S : Script) (s out : List ℕ) (at : ℕ) → link_answer S t m s out ≡ Err (refusal text_not_ascii f at) → ⊥
 unfolding link_answer link_judged body_judged
 answer_never t m f y S s out at e =
-    by_head (link_head S m s)
-    (λ r h. head_never S m s f at (h ∙ ap HeadRefused (told_bad _ r (refusal text_not_ascii f at) (rw (link_answer, link_judged, h)) e)))
-    (λ k h. by_judged (body_judged S t s k)
+    by_result (link_head S m s)
+    (λ r h. head_never S m s f at (h ∙ ap Err (same_err (sym (rw (link_answer, link_judged, h)) ∙ e))))
+    (λ k h. by_result (body_judged S t s k)
     (λ r j. fields_never S t f y (size_of S 4 + 8 * k) (size_of (other S) 4 + 8 * k) (fields_of (maps_of (size_of S 4) s k) k) (drop (size_of S 4 + 8 * k) s) at
-    (j ∙ ap JudgedBad (told_bad _ r (refusal text_not_ascii f at) (rw (link_answer, link_judged, h, j)) e)))
-    (λ u w j. by_bool (leb w (length out))
-    (λ l. told_done _ u w (refusal text_not_ascii f at) (rw (link_answer, link_judged, h, j, l)) e)
-    (λ l. absurd (let z = told_number _ output_too_short f at (rw (link_answer, link_judged, h, j, l)) e in omega (arith, z)))))
+    (j ∙ ap Err (same_err (sym (rw (link_answer, link_judged, h, j)) ∙ e))))
+    (λ d j. by_bool (leb d.written (length out))
+    (λ l. never (refusal text_not_ascii f at) {x = d} e (rw (link_answer, link_judged, h, j, l)))
+    (λ l. refusal_differs (plain output_too_short) (λ z. omega (arith, z)) (rw (link_answer, link_judged, h, j, l)) e)))
 
 binary_never : (t : Table) (m : ℕ) → BinaryNeverText t m
 unfolding BinaryNeverText

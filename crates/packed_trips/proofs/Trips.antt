@@ -7,6 +7,7 @@ use lib.Dec.{leb}
 use lib.ListN.{length, take, drop, take-append-drop}
 use lib.Seq.{take_at, drop_at, take-length}
 use borrow.Author.Tests.{le-leb, lt-leb, leb-true}
+use Rattle.std.specs.Prelude.{Ok, Err}
 use Rattle.octets.specs.Lists.{lay}
 use Rattle.octets.proofs.Cases.{by_bool}
 use Rattle.refusal.specs.Numbers.{output_too_short}
@@ -17,52 +18,46 @@ use Rattle.field_table.specs.House.{house}
 use Rattle.field_table.proofs.Rows.{house_small}
 use Rattle.message_language.specs.Language.{Reading, Begins}
 use Rattle.message_contents.specs.Contents.{contents_in}
+use Rattle.message_reader.proofs.Results.{by_result, never, same_ok}
 use Rattle.packed_field.specs.declared.Script.{Script}
 use Rattle.packed_field.specs.declared.Script.TheVariants.{Plain, Packed}
 use Rattle.packed_field.specs.Scripts.{other}
-use Rattle.packed_link.specs.declared.Judged.TheVariants.{Good}
 use Rattle.packed_link.specs.declared.Translated.{Translated}
-use Rattle.packed_link.specs.declared.Translated.TheVariants.{Done, Refused}
-use Rattle.packed_link.specs.Link.{link_judged, link_carried, link_answer, link_output}
+use Rattle.packed_link.specs.Link.{translated, link_judged, link_carried, link_answer, link_output}
 use Rattle.packed_language.specs.Packed.{AllDigits, Parts, IsMessage, plain_bytes, packed_bytes, Starts}
 use Rattle.packed_language.proofs.Plain.{plain_message, plain_contents, all_digits, saying, saying_is, saying_bytes, saying_reading}
 use Rattle.packed_trips.specs.Trips.{says, form_of, Links, Packs, Returns, Leaves, HouseLinks}
 use Rattle.packed_trips.proofs.Forms.{bytes_in, plain_is, packed_is, shorter_form}
-use Rattle.packed_trips.proofs.Messages.{by_judged, sound, judged_good, carried_is, one_message}
+use Rattle.packed_trips.proofs.Messages.{sound, judged_good, carried_is, one_message}
 
 -- An answer is what was judged, and room.
-never : (o : Translated) (r : Refusal) (u w : ℕ) → o ≡ Refused r → o ≡ Done u w → ⊥
-never o r u w p q = let z : ◌≡◌ {A = ℕ} 0 1 = cc in omega arith
-
 module _ (S : Script) (t : Table) (m : ℕ) (s out : List ℕ) where
-  answered : (u w : ℕ) → link_judged S t m s ≡ Good u w → w ≤ length out → link_answer S t m s out ≡ Done u w
+  answered : (u w : ℕ) → link_judged S t m s ≡ Ok (translated u w) → w ≤ length out → link_answer S t m s out ≡ Ok (translated u w)
   unfolding link_answer
   answered u w e h = rw (link_answer, e, le-leb w (length out) h)
 
-  done_output : (u w : ℕ) → link_answer S t m s out ≡ Done u w → link_output S t m s out ≡ lay (link_carried S t m s) out
+  done_output : (u w : ℕ) → link_answer S t m s out ≡ Ok (translated u w) → link_output S t m s out ≡ lay (link_carried S t m s) out
   unfolding link_output
   done_output u w e = rw (link_output, e)
 
-  kept : (r : Refusal) → link_answer S t m s out ≡ Refused r → link_output S t m s out ≡ out
+  kept : (r : Refusal) → link_answer S t m s out ≡ Err r → link_output S t m s out ≡ out
   unfolding link_output
   kept r e = rw (link_output, e)
 
   record Judging (u w : ℕ) : Type 0 where
-    good : link_judged S t m s ≡ Good u w
+    good : link_judged S t m s ≡ Ok (translated u w)
     room : w ≤ length out
 
-  judging : (u w : ℕ) → link_answer S t m s out ≡ Done u w → Judging u w
+  judging : (u w : ℕ) → link_answer S t m s out ≡ Ok (translated u w) → Judging u w
   unfolding link_answer
   judging u w e =
-      by_judged (link_judged S t m s)
-      (λ r h. absurd (never _ r u w (rw (link_answer, h)) e))
-      (λ v x h. by_bool (leb x (length out))
+      by_result (link_judged S t m s)
+      (λ r h. never r (rw (link_answer, h)) e)
+      (λ d h. by_bool (leb d.written (length out))
       (λ y.
-      let d : Done v x ≡ Done u w = sym (rw (link_answer, h, y)) ∙ e in
-      let i : v ≡ u = cc in
-      let j : x ≡ w = cc in
-      record { good = h ∙ (λ k. Good (i k) (j k)); room = rw (← j) (leb-true x (length out) y) })
-      (λ n. absurd (never _ (plain output_too_short) u w (rw (link_answer, h, n)) e)))
+      let i : d ≡ translated u w = same_ok (sym (rw (link_answer, h, y)) ∙ e) in
+      record { good = h ∙ ap Ok i; room = rw (← ap (λ (x : Translated). x.written) i) (leb-true d.written (length out) y) })
+      (λ n. never (plain output_too_short) (rw (link_answer, h, n)) e))
 
 -- What is accepted, over the script.
 record Accepted (S : Script) (t : Table) (m : ℕ) (s out : List ℕ) (u w : ℕ) : Type 0 where
@@ -75,7 +70,7 @@ record Accepted (S : Script) (t : Table) (m : ℕ) (s out : List ℕ) (u w : ℕ
   output : link_output S t m s out ≡ lay (bytes_in (other S) t parts) out
   room : w ≤ length out
 
-accepted : (S : Script) (t : Table) → Small t → (m : ℕ) → 2 ≤ m → (s out : List ℕ) (u w : ℕ) → link_answer S t m s out ≡ Done u w → Accepted S t m s out u w
+accepted : (S : Script) (t : Table) → Small t → (m : ℕ) → 2 ≤ m → (s out : List ℕ) (u w : ℕ) → link_answer S t m s out ≡ Ok (translated u w) → Accepted S t m s out u w
 accepted S t small m least s out u w e =
     let j = judging S t m s out u w e in
     let c = sound S t small m least s u w j.good in
@@ -91,13 +86,13 @@ accepted S t small m least s out u w e =
     }
 
 module _ (S : Script) (t : Table) (m : ℕ) (p : Parts) (is : IsMessage t m p) (s after out : List ℕ) (j : s ≡ bytes_in S t p ++ after) where
-  accepts : length (bytes_in (other S) t p) ≤ length out → link_answer S t m s out ≡ Done (length (bytes_in S t p)) (length (bytes_in (other S) t p))
+  accepts : length (bytes_in (other S) t p) ≤ length out → link_answer S t m s out ≡ Ok (translated (length (bytes_in S t p)) (length (bytes_in (other S) t p)))
   accepts room = answered S t m s out _ _ (judged_good S t m p is s after j) room
 
   outputs : length (bytes_in (other S) t p) ≤ length out → link_output S t m s out ≡ lay (bytes_in (other S) t p) out
   outputs room = done_output S t m s out _ _ (accepts room) ∙ ap (λ (l : List ℕ). lay l out) (carried_is S t m p is s after j)
 
-  refuses : length out < length (bytes_in (other S) t p) → link_answer S t m s out ≡ Refused (plain output_too_short)
+  refuses : length out < length (bytes_in (other S) t p) → link_answer S t m s out ≡ Err (plain output_too_short)
   unfolding link_answer
   refuses short = rw (link_answer, judged_good S t m p is s after j, lt-leb (length (bytes_in (other S) t p)) (length out) short)
 
@@ -128,7 +123,7 @@ module _ (t : Table) (small : Small t) (m : ℕ) (least : 2 ≤ m) where
             let j = begun S t p s u st in
             let f = form_is (other S) t p in
             let r : length (bytes_in (other S) t p) ≤ length out = rw f room in (
-              accepts S t m p is s st.after out j r ∙ (λ i. Done ((ap length (form_is S t p) ∙ st.long) i) (ap length f i)),
+              accepts S t m p is s st.after out j r ∙ (λ i. Ok (translated ((ap length (form_is S t p) ∙ st.long) i) (ap length f i))),
               record { is = is; starts = st; written = refl; output = outputs S t m p is s st.after out j r ∙ ap (λ (l : List ℕ). lay l out) f },
             );
         no_room = λ s out u p is st short. refuses S t m p is s st.after out (begun S t p s u st) (rw (form_is (other S) t p) short);
@@ -166,8 +161,8 @@ module _ (t : Table) (small : Small t) (m : ℕ) (least : 2 ≤ m) where
       }
 
   -- there and back, over the script
-  back : (S : Script) → other (other S) ≡ S → (s out home : List ℕ) (u w : ℕ) → link_answer S t m s out ≡ Done u w → u ≤ length home
-      → (link_answer (other S) t m (take w (link_output S t m s out)) home ≡ Done w u) × (link_output (other S) t m (take w (link_output S t m s out)) home ≡ lay (take u s) home)
+  back : (S : Script) → other (other S) ≡ S → (s out home : List ℕ) (u w : ℕ) → link_answer S t m s out ≡ Ok (translated u w) → u ≤ length home
+      → (link_answer (other S) t m (take w (link_output S t m s out)) home ≡ Ok (translated w u)) × (link_output (other S) t m (take w (link_output S t m s out)) home ≡ lay (take u s) home)
   unfolding lay
   back S twice s out home u w e room =
       let a = accepted S t small m least s out u w e in
@@ -180,12 +175,12 @@ module _ (t : Table) (small : Small t) (m : ℕ) (least : 2 ≤ m) where
       let j : take w (link_output S t m s out) ≡ x ++ [] = sent ∙ sym (append-nil x) in
       let r : length (bytes_in (other (other S)) t p) ≤ length home = rw n room in
       let front : take u s ≡ y = ap (take u) a.joined ∙ take_at y a.after u a.long in (
-        accepts (other S) t m p a.is (take w (link_output S t m s out)) [] home j r ∙ (λ i. Done (sym a.written i) (n i)),
+        accepts (other S) t m p a.is (take w (link_output S t m s out)) [] home j r ∙ (λ i. Ok (translated (sym a.written i) (n i))),
         outputs (other S) t m p a.is (take w (link_output S t m s out)) [] home j r ∙ ap (λ (l : List ℕ). lay l home) (z ∙ sym front),
       )
 
-  round : (S : Script) (s out home : List ℕ) (u w : ℕ) → link_answer S t m s out ≡ Done u w → u ≤ length home
-      → (link_answer (other S) t m (take w (link_output S t m s out)) home ≡ Done w u) × (link_output (other S) t m (take w (link_output S t m s out)) home ≡ lay (take u s) home)
+  round : (S : Script) (s out home : List ℕ) (u w : ℕ) → link_answer S t m s out ≡ Ok (translated u w) → u ≤ length home
+      → (link_answer (other S) t m (take w (link_output S t m s out)) home ≡ Ok (translated w u)) × (link_output (other S) t m (take w (link_output S t m s out)) home ≡ lay (take u s) home)
   round Plain = back Plain refl
   round Packed = back Packed refl
 
@@ -213,7 +208,7 @@ module _ (t : Table) (small : Small t) (m : ℕ) (least : 2 ≤ m) where
             let f : take u q ≡ y = same ∙ ap (take u) a.joined ∙ take_at y a.after u a.long in
             let j : q ≡ y ++ drop u q = sym (take-append-drop u q) ∙ ap (λ (l : List ℕ). l ++ drop u q) f in
             let r : length (bytes_in (other S) t a.parts) ≤ length out = rw (← a.written) a.room in
-            (accepts S t m a.parts a.is q (drop u q) out j r ∙ (λ i. Done (a.long i) (sym a.written i)), outputs S t m a.parts a.is q (drop u q) out j r ∙ sym a.output);
+            (accepts S t m a.parts a.is q (drop u q) out j r ∙ (λ i. Ok (translated (a.long i) (sym a.written i))), outputs S t m a.parts a.is q (drop u q) out j r ∙ sym a.output);
         only_written = λ S s out u w e.
             let a = accepted S t small m least s out u w e in
             let x = bytes_in (other S) t a.parts in

@@ -9,41 +9,40 @@
 --   BinaryNeverText t m  == it of every field whose class is binary
 --   HouseRefuses         == all of it, of the house table and three bitmaps, and of its field 55
 --   from b bs            == a packed message with the MTI 0800, one bitmap of the bytes b, and behind it the bytes bs
---   unpacked s           == what unpacking s by the house table into no room tells: number, field and position
+--   unpacked s           == what unpacking s by the house table into no room tells
 --   packed s             == the same of packing
+--   refused n f p        == that it refuses: number, field and position
 --   WorkedRefusals       == refusals, number, field and position: each number of unpacking at its places, and packing's 21
 --
 -- Assumes nothing: these are definitions and statements.
-use Rattle.std.specs.Prelude.{ℕ, ◌≡◌, true, List, [], ◌∷◌, ◌++◌}
+use Rattle.std.specs.Prelude.{ℕ, ◌≡◌, true, List, [], ◌∷◌, ◌++◌, Result, Ok, Err}
 use Rattle.refusal.specs.Numbers.{text_not_ascii, not_digits}
-use Rattle.refusal.specs.Refusals.{refusal}
-use Rattle.refusal.specs.declared.Refusal.{Refusal}
+use Rattle.refusal.specs.Refusals.{refusal, Told}
+use Rattle.refusal.specs.declared.Cause.{Cause}
 use Rattle.field_table.specs.Table.{Table, is_binary}
 use Rattle.field_table.specs.House.{house}
-use Rattle.field_read.specs.Items.{read_field}
-use Rattle.field_read.specs.declared.FieldRead.{FieldRead}
-use Rattle.field_read.specs.declared.FieldRead.TheVariants.{Content, Refused as FieldRefused}
+use Rattle.field_read.specs.Items.{content_at, read_field}
+use Rattle.field_read.specs.declared.Content.{Content}
 use Rattle.message_reader.specs.Reader.{head_read}
 use Rattle.packed_field.specs.declared.Script.{Script}
 use Rattle.packed_field.specs.declared.Script.TheVariants.{Plain, Packed}
-use Rattle.packed_field.specs.declared.Item.TheVariants.{Found, Refused as ItemRefused}
+use Rattle.packed_field.specs.declared.Item.{Item}
 use Rattle.packed_field.specs.Items.{is_numeric, judge_item}
-use Rattle.packed_link.specs.declared.Translated.TheVariants.{Refused}
 use Rattle.packed_link.specs.Link.{told_link, link_head, link_answer}
 
-abbrev pub TakesOrEight : FieldRead → Type 0
-TakesOrEight (Content a n) = Unit {0}
-TakesOrEight (FieldRefused x) = x ≡ text_not_ascii
+abbrev pub TakesOrEight : Result Content Cause → Type 0
+TakesOrEight (Ok x) = Unit {0}
+TakesOrEight (Err c) = c ≡ text_not_ascii
 
 pub record RefusesAsReader (t : Table) (m : ℕ) : Type 0 where
   pub head : (s : List ℕ) → link_head Plain m s ≡ head_read m s
-  pub found : (f : ℕ) (s : List ℕ) (a n k j : ℕ) → judge_item Plain t f s ≡ Found a n k j → (read_field t f s ≡ Content a n) × (k ≡ n)
-  pub refused : (f : ℕ) (s : List ℕ) (x : ℕ) → judge_item Plain t f s ≡ ItemRefused x → (x ≡ not_digits → ⊥) → read_field t f s ≡ FieldRefused x
-  pub instead : (f : ℕ) (s : List ℕ) → judge_item Plain t f s ≡ ItemRefused not_digits → (is_numeric (t.class f) ≡ true) × TakesOrEight (read_field t f s)
+  pub found : (f : ℕ) (s : List ℕ) (i : Item) → judge_item Plain t f s ≡ Ok i → (read_field t f s ≡ Ok (content_at i.start i.count)) × (i.size ≡ i.count)
+  pub refused : (f : ℕ) (s : List ℕ) (c : Cause) → judge_item Plain t f s ≡ Err c → (c ≡ not_digits → ⊥) → read_field t f s ≡ Err c
+  pub instead : (f : ℕ) (s : List ℕ) → judge_item Plain t f s ≡ Err not_digits → (is_numeric (t.class f) ≡ true) × TakesOrEight (read_field t f s)
 
 -- 02, P2: "8 is never given for it", of the link too.
 pub record NeverText (t : Table) (m f : ℕ) : Type 0 where
-  pub carrying : (S : Script) (s out : List ℕ) (at : ℕ) → link_answer S t m s out ≡ Refused (refusal text_not_ascii f at) → ⊥
+  pub carrying : (S : Script) (s out : List ℕ) (at : ℕ) → link_answer S t m s out ≡ Err (refusal text_not_ascii f at) → ⊥
 
 unfoldable pub BinaryNeverText : Table → ℕ → Type 0
 BinaryNeverText t m = (f : ℕ) → is_binary (t.class f) ≡ true → NeverText t m f
@@ -56,11 +55,14 @@ pub record HouseRefuses : Type 0 where
 abbrev pub from : List ℕ → List ℕ → List ℕ
 from b bs = 0x08 ∷ 0x00 ∷ (b ++ bs)
 
-abbrev pub unpacked : List ℕ → Refusal
-unpacked s = (told_link (link_answer Packed house 3 s [])).refused
+abbrev pub unpacked : List ℕ → Told
+unpacked s = told_link (link_answer Packed house 3 s [])
 
-abbrev pub packed : List ℕ → Refusal
-packed s = (told_link (link_answer Plain house 3 s [])).refused
+abbrev pub packed : List ℕ → Told
+packed s = told_link (link_answer Plain house 3 s [])
+
+abbrev pub refused : ℕ → ℕ → ℕ → Told
+refused n f p = record { number = n; field = f; position = p; values = 0 ∷ 0 ∷ [] }
 
 -- bitmaps: none, one that a second should follow, field 2, 3, 36, 48
 abbrev no_field : List ℕ
@@ -83,25 +85,25 @@ field_48 = 0 ∷ 0 ∷ 0 ∷ 0 ∷ 0 ∷ 0x01 ∷ 0 ∷ 0 ∷ []
 
 pub record WorkedRefusals : Type 0 where
   -- "a packed input under 10 bytes is 2"
-  pub nothing : unpacked [] ≡ refusal 2 0 0
-  pub nine_bytes : unpacked (0xFF ∷ 0x00 ∷ 0 ∷ 0 ∷ 0 ∷ 0 ∷ 0 ∷ 0 ∷ 0 ∷ []) ≡ refusal 2 0 0
+  pub nothing : unpacked [] ≡ refused 2 0 0
+  pub nine_bytes : unpacked (0xFF ∷ 0x00 ∷ 0 ∷ 0 ∷ 0 ∷ 0 ∷ 0 ∷ 0 ∷ 0 ∷ []) ≡ refused 2 0 0
   -- "for the MTI, the bad byte"
-  pub first_mti_byte : unpacked (0x0A ∷ 0x00 ∷ no_field) ≡ refusal 22 0 0
-  pub last_mti_byte : unpacked (0x08 ∷ 0xA0 ∷ no_field) ≡ refusal 22 0 1
+  pub first_mti_byte : unpacked (0x0A ∷ 0x00 ∷ no_field) ≡ refused 22 0 0
+  pub last_mti_byte : unpacked (0x08 ∷ 0xA0 ∷ no_field) ≡ refused 22 0 1
   -- 4 at the missing bitmap's start
-  pub no_second_bitmap : unpacked (from chained []) ≡ refusal 4 0 10
-  pub no_third_bitmap : unpacked (from chained chained) ≡ refusal 4 0 18
+  pub no_second_bitmap : unpacked (from chained []) ≡ refused 4 0 10
+  pub no_third_bitmap : unpacked (from chained chained) ≡ refused 4 0 18
   -- in a field: 5 for length digits, 22, 7, 5 for the content, then 22 or 8; at the field's first byte
-  pub length_cut : unpacked (from field_36 (0x00 ∷ [])) ≡ refusal 5 36 10
-  pub length_bad : unpacked (from field_2 (0x2A ∷ [])) ≡ refusal 22 2 10
-  pub length_spare : unpacked (from field_36 (0x10 ∷ 0x05 ∷ [])) ≡ refusal 22 36 10
-  pub length_over : unpacked (from field_2 (0x20 ∷ [])) ≡ refusal 7 2 10
-  pub content_cut : unpacked (from field_2 (0x03 ∷ 0x01 ∷ [])) ≡ refusal 5 2 10
-  pub content_bad : unpacked (from field_2 (0x03 ∷ 0x01 ∷ 0x2A ∷ [])) ≡ refusal 22 2 10
-  pub content_spare : unpacked (from field_2 (0x03 ∷ 0x11 ∷ 0x23 ∷ [])) ≡ refusal 22 2 10
-  pub text_over : unpacked (from field_48 (0x00 ∷ 0x01 ∷ 0x80 ∷ [])) ≡ refusal 8 48 10
+  pub length_cut : unpacked (from field_36 (0x00 ∷ [])) ≡ refused 5 36 10
+  pub length_bad : unpacked (from field_2 (0x2A ∷ [])) ≡ refused 22 2 10
+  pub length_spare : unpacked (from field_36 (0x10 ∷ 0x05 ∷ [])) ≡ refused 22 36 10
+  pub length_over : unpacked (from field_2 (0x20 ∷ [])) ≡ refused 7 2 10
+  pub content_cut : unpacked (from field_2 (0x03 ∷ 0x01 ∷ [])) ≡ refused 5 2 10
+  pub content_bad : unpacked (from field_2 (0x03 ∷ 0x01 ∷ 0x2A ∷ [])) ≡ refused 22 2 10
+  pub content_spare : unpacked (from field_2 (0x03 ∷ 0x11 ∷ 0x23 ∷ [])) ≡ refused 22 2 10
+  pub text_over : unpacked (from field_48 (0x00 ∷ 0x01 ∷ 0x80 ∷ [])) ≡ refused 8 48 10
   -- "14 comes last": a good message, and no room
-  pub no_room : unpacked (from no_field []) ≡ refusal 14 0 0
+  pub no_room : unpacked (from no_field []) ≡ refused 14 0 0
   -- 21 in the place of 8, a byte over 0x7F or not
-  pub no_digit : packed (0x30 ∷ 0x38 ∷ 0x30 ∷ 0x30 ∷ (field_3 ++ (0x31 ∷ 0x32 ∷ 0x33 ∷ 0x34 ∷ 0x35 ∷ 0x41 ∷ []))) ≡ refusal 21 3 12
-  pub byte_over : packed (0x30 ∷ 0x38 ∷ 0x30 ∷ 0x30 ∷ (field_3 ++ (0x31 ∷ 0x32 ∷ 0x33 ∷ 0x34 ∷ 0x35 ∷ 0x80 ∷ []))) ≡ refusal 21 3 12
+  pub no_digit : packed (0x30 ∷ 0x38 ∷ 0x30 ∷ 0x30 ∷ (field_3 ++ (0x31 ∷ 0x32 ∷ 0x33 ∷ 0x34 ∷ 0x35 ∷ 0x41 ∷ []))) ≡ refused 21 3 12
+  pub byte_over : packed (0x30 ∷ 0x38 ∷ 0x30 ∷ 0x30 ∷ (field_3 ++ (0x31 ∷ 0x32 ∷ 0x33 ∷ 0x34 ∷ 0x35 ∷ 0x80 ∷ []))) ≡ refused 21 3 12

@@ -13,7 +13,7 @@
 --   HouseLinks                 == all of it, of the house table and three bitmaps
 --
 -- Assumes nothing: these are definitions and statements.
-use Rattle.std.specs.Prelude.{ℕ, ◌≤◌, ◌<◌, ◌≡◌, List, ◌++◌, length, take, drop}
+use Rattle.std.specs.Prelude.{ℕ, ◌≤◌, ◌<◌, ◌≡◌, List, ◌++◌, length, take, drop, Ok, Err}
 use Rattle.octets.specs.Lists.{lay}
 use Rattle.refusal.specs.Numbers.{output_too_short}
 use Rattle.refusal.specs.Refusals.{plain}
@@ -26,8 +26,7 @@ use Rattle.message_contents.specs.Contents.{contents_in, reading_of}
 use Rattle.packed_field.specs.declared.Script.{Script}
 use Rattle.packed_field.specs.declared.Script.TheVariants.{Plain, Packed}
 use Rattle.packed_field.specs.Scripts.{other}
-use Rattle.packed_link.specs.declared.Translated.TheVariants.{Done, Refused}
-use Rattle.packed_link.specs.Link.{link_answer, link_output}
+use Rattle.packed_link.specs.Link.{translated, link_answer, link_output}
 use Rattle.packed_language.specs.Packed.{AllDigits, Parts, IsMessage, plain_bytes, packed_bytes, Starts}
 
 abbrev pub says : Table → Parts → Reading
@@ -45,20 +44,20 @@ pub record Carries (S : Script) (t : Table) (m : ℕ) (s out : List ℕ) (u w : 
 
 pub record Links (S : Script) (t : Table) (m : ℕ) : Type 0 where
   -- What is accepted begins with a message in this script, and its other form is written.
-  pub only_messages : (s out : List ℕ) (u w : ℕ) → link_answer S t m s out ≡ Done u w → ((p : Parts) × Carries S t m s out u w p)
+  pub only_messages : (s out : List ℕ) (u w : ℕ) → link_answer S t m s out ≡ Ok (translated u w) → ((p : Parts) × Carries S t m s out u w p)
   -- An input that begins with a message is accepted where its other form fits, and carried over; else it is 14.
   pub all_messages :
       (s out : List ℕ) (u : ℕ) (p : Parts) →
       IsMessage t m p →
       Starts s (form_of S t p) u →
       length (form_of (other S) t p) ≤ length out →
-      (link_answer S t m s out ≡ Done u (length (form_of (other S) t p))) × Carries S t m s out u (length (form_of (other S) t p)) p
+      (link_answer S t m s out ≡ Ok (translated u (length (form_of (other S) t p)))) × Carries S t m s out u (length (form_of (other S) t p)) p
   pub no_room :
       (s out : List ℕ) (u : ℕ) (p : Parts) →
       IsMessage t m p →
       Starts s (form_of S t p) u →
       length out < length (form_of (other S) t p) →
-      link_answer S t m s out ≡ Refused (plain output_too_short)
+      link_answer S t m s out ≡ Err (plain output_too_short)
   -- Only one message in this script begins an input, and it says one thing.
   pub one_message :
       (s : List ℕ) (u v : ℕ) (p q : Parts) →
@@ -91,21 +90,21 @@ pub record Returns (t : Table) (m : ℕ) : Type 0 where
       AllDigits t (contents_in bs r.entries) →
       length bs ≤ length out →
       length bs ≤ length back →
-      ((w : ℕ) × ((link_answer Plain t m bs out ≡ Done (length bs) w) × (link_output Packed t m (take w (link_output Plain t m bs out)) back ≡ lay bs back)))
+      ((w : ℕ) × ((link_answer Plain t m bs out ≡ Ok (translated (length bs) w)) × (link_output Packed t m (take w (link_output Plain t m bs out)) back ≡ lay bs back)))
   pub accepted_returns :
       (S : Script) (s out back : List ℕ) (u w : ℕ) →
-      link_answer S t m s out ≡ Done u w →
+      link_answer S t m s out ≡ Ok (translated u w) →
       u ≤ length back →
-      (link_answer (other S) t m (take w (link_output S t m s out)) back ≡ Done w u) × (link_output (other S) t m (take w (link_output S t m s out)) back ≡ lay (take u s) back)
+      (link_answer (other S) t m (take w (link_output S t m s out)) back ≡ Ok (translated w u)) × (link_output (other S) t m (take w (link_output S t m s out)) back ≡ lay (take u s) back)
 
 pub record Leaves (t : Table) (m : ℕ) : Type 0 where
   pub only_used :
       (S : Script) (s q out : List ℕ) (u w : ℕ) →
-      link_answer S t m s out ≡ Done u w →
+      link_answer S t m s out ≡ Ok (translated u w) →
       take u q ≡ take u s →
-      (link_answer S t m q out ≡ Done u w) × (link_output S t m q out ≡ link_output S t m s out)
-  pub only_written : (S : Script) (s out : List ℕ) (u w : ℕ) → link_answer S t m s out ≡ Done u w → (w ≤ length out) × (drop w (link_output S t m s out) ≡ drop w out)
-  pub refusal_leaves : (S : Script) (s out : List ℕ) (r : Refusal) → link_answer S t m s out ≡ Refused r → link_output S t m s out ≡ out
+      (link_answer S t m q out ≡ Ok (translated u w)) × (link_output S t m q out ≡ link_output S t m s out)
+  pub only_written : (S : Script) (s out : List ℕ) (u w : ℕ) → link_answer S t m s out ≡ Ok (translated u w) → (w ≤ length out) × (drop w (link_output S t m s out) ≡ drop w out)
+  pub refusal_leaves : (S : Script) (s out : List ℕ) (r : Refusal) → link_answer S t m s out ≡ Err r → link_output S t m s out ≡ out
 
 pub record HouseLinks : Type 0 where
   pub packing : Links Plain house 3
