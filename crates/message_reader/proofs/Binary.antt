@@ -55,6 +55,16 @@ field_not : (t : Table) (f : ℕ) (s : List ℕ) → is_binary (t.class f) ≡ t
 unfolding read_field
 field_not t f s binary e = item_not (t.width f) (t.most f) (t.class f) s binary e
 
+-- What two refusals that are equal say.
+pub cause_of : {r q : Refusal} → r ≡ q → r.cause ≡ q.cause
+cause_of e = ap (λ (x : Refusal). x.cause) e
+
+pub field_of : {r q : Refusal} → r ≡ q → r.field ≡ q.field
+field_of e = ap (λ (x : Refusal). x.field) e
+
+pub same_number : {A : Type 0} {r q : Refusal} → ◌≡◌ {A = Result A Refusal} (Err r) (Err q) → number_of r.cause ≡ number_of q.cause
+same_number e = ap number_of (cause_of (same_err e))
+
 -- The fields of a message, one after the other: a refusal names the field that was being read.
 module _ (t : Table) (f : ℕ) (binary : is_binary (t.class f) ≡ true) (p : ℕ) where
   fields_not : (at : ℕ) (fs s : List ℕ) → read_fields t at fs s ≡ Err (refusal text_not_ascii f p) → ⊥
@@ -64,15 +74,12 @@ module _ (t : Table) (f : ℕ) (binary : is_binary (t.class f) ≡ true) (p : �
       by_read (read_field t g s)
       (λ n h.
       let q : refusal n g at ≡ refusal text_not_ascii f p = same_err (sym (fields_refused t at g fs s n h) ∙ e) in
-      let x : g ≡ f = ap (λ (r : Refusal). r.field) q in
-      let y : n ≡ text_not_ascii = ap (λ (r : Refusal). r.cause) q in
+      let x : g ≡ f = field_of q in
+      let y : n ≡ text_not_ascii = cause_of q in
       field_not t f s binary (rw (x, y) at h))
       (λ a n h. fields_not (at + (a + n)) fs (drop (a + n) s) (sym (fields_read t at g fs s a n h) ∙ e))
 
 -- The head: 2, 3, 4 or 27.
-same_number : {A : Type 0} {r q : Refusal} → ◌≡◌ {A = Result A Refusal} (Err r) (Err q) → number_of r.cause ≡ number_of q.cause
-same_number e = ap (λ (r : Refusal). number_of r.cause) (same_err e)
-
 maps_not : (a m : ℕ) (s : List ℕ) (f p : ℕ) → bitmaps_read a m s ≡ Err (refusal text_not_ascii f p) → ⊥
 unfolding bitmaps_read
 maps_not a m s f p e =
