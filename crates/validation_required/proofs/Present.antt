@@ -12,7 +12,8 @@ use Rattle.message_language.specs.Language.{Entry}
 use Rattle.message_contents.specs.Contents.{numbers_of}
 use Rattle.message_notes.specs.Dialect.{Dialect}
 use Rattle.message_notes.specs.Notes.{count_in}
-use Rattle.message_walk.specs.declared.Walked.TheVariants.{Ended}
+use Rattle.message_walk.specs.declared.Ended.{Ended}
+use Rattle.std.specs.Prelude.{Ok}
 use Rattle.message_walk.specs.Walk.{walked, entries_in, fields_on, fields_in}
 use Rattle.message_walk.specs.Faults.{any, within}
 use Rattle.message_walk.proofs.Naming.{entries_good, numbers_are}
@@ -28,7 +29,7 @@ found_in_lem f at (e ∷ es) =
     (λ n. rw n (found_in_lem f at es))
 
 -- where the walk came to the end note
-module _ (d : Dialect) (v n : List ℕ) (at u : ℕ) (ended : walked d (within v any) n ≡ Ended at u) where
+module _ (d : Dialect) (v n : List ℕ) (e : Ended) (ended : walked d (within v any) n ≡ Ok e) where
   abbrev numbers : List ℕ
   numbers = numbers_of (entries_in d (within v any) n)
 
@@ -37,7 +38,7 @@ module _ (d : Dialect) (v n : List ℕ) (at u : ℕ) (ended : walked d (within v
 
   present_is : (f : ℕ) → is_present d v n f ≡ is_in f numbers
   unfolding is_present looked_up found_by
-  present_is f = rw (looked_up, ended) (found_in_lem f at (entries_in d (within v any) n))
+  present_is f = rw (looked_up, ended) (found_in_lem f e.at (entries_in d (within v any) n))
 
   gathered_is : fields_in d (within v any) n ≡ set_of numbers
   unfolding fields_in fields_on

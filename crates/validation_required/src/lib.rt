@@ -1,51 +1,33 @@
 // Required fields, by the MTI. 01, "Checks and conversions".
 #![tactic(auto)]
 
-ghost use Rattle.std.specs.Prelude.{◌≡◌, not, length, find, MatchOption};
-ghost use Rattle.refusal.specs.Numbers.{required_missing};
-ghost use Rattle.refusal.specs.Refusals.{refusal, told_checked};
+ghost use Rattle.std.specs.Prelude.{◌≡◌};
+ghost use Rattle.refusal.specs.Refusals.{told_checked};
 ghost use Rattle.field_table.specs.House.{house};
 ghost use Rattle.bitmap.specs.Bitmaps.{has_field};
 ghost use Rattle.message_notes.specs.Dialect.{dialect};
-ghost use Rattle.validation_required.specs.Required.{required_by, required_in};
+ghost use Rattle.validation_required.specs.Required.{first_missing, required_by, required_in};
 
 use bitmap::FieldSet;
-use message_walk::Walked;
-use refusal::{Checked, Refusal};
+use refusal::{Cause, Refusal};
 
 // Checks that the notes name every field that their MTI requires: one walk, and the fields asked of the set that it gathered. Malformed
 // notes are answered as by lookup.
-pub fn check_required(values: &[u8], notes: &[u8]) -> Checked
+pub fn check_required(values: &[u8], notes: &[u8]) -> Result<(), Refusal>
     ensures answers { result ≡ required_in (dialect house) values.now notes.now }
     ensures tells { told_checked result ≡ told_checked (required_in (dialect house) values.now notes.now) }
 {
-    let walk = message_walk::walk(values, notes);
-    let end = walk.end;
-    match end {
-        Walked::Refused(refusal) => Checked::Refused(refusal),
-        Walked::Ended { .. } => {
-            answer_missing(first_missing(message_notes::mti_in(notes), walk.fields))
-        }
-    }
-}
-
-// What is answered where that field is missing.
-fn answer_missing(missing: Option<usize>) -> Checked
-    ensures { MatchOption missing (result ≡ Checked.Passed) (λ f. result ≡ Checked.Refused (refusal required_missing f 0)) }
-{
-    match missing {
-        None => Checked::Passed,
-        Some(field) => Checked::Refused(Refusal {
-            number: refusal::REQUIRED_MISSING,
-            field,
-            position: 0,
-        }),
+    let walk = message_walk::walk(values, notes)?;
+    match first_missing(message_notes::mti_in(notes), walk.fields) {
+        None => Ok(()),
+        Some(field) => Err(Cause::RequiredMissing.at(field, 0)),
     }
 }
 
 // The first of the fields that the MTI requires and that is missing.
+#[tactic(auto, unfolding(crate::specs::Required::first_missing))]
 fn first_missing(mti: &[u8], fields: FieldSet) -> Option<usize>
-    ensures { result ≡ find (λ f. not (has_field fields.bits f)) (required_by mti.now) }
+    ensures { result ≡ first_missing (has_field fields.bits) (required_by mti.now) }
 {
     required_by(mti).iter().copied().find(|f| !fields.has(*f))
 }
