@@ -7,7 +7,20 @@ use native.Mathlib.Nat.{le_antisymm, le_of_suc-le-suc, not-suc-le-zero}
 use native.Mathlib.Numerals.{add-one}
 use native.Mathlib.Omega.{arith}
 use lib.ListN.{length, take, drop, get_or, set, length-append, length-drop, drop_of_length-le}
-use lib.Seq.{drop-cons, take-length, drop-length}
+use lib.Seq.{drop-cons, take-length, drop-length, length-take-le}
+use denote.Ref.{Bor}
+use denote.Param.Members.{Mut}
+use Rattle.std.proofs.Common.{Iter}
+use Rattle.std.specs.declared.iter.TakeWhile.{TakeWhile}
+use Rattle.std.specs.Fn.{Called, CalledAt}
+use Rattle.std.specs.List.{list_all, prefix_len}
+use Rattle.std.specs.Iterator.{ChecksAll, Drains}
+use Rattle.std.specs.Iterator.Adapters.{take_while_source, take_while_done, take_while_callee, take_while_steps}
+use Rattle.std.specs.Slice.Iter.{iter_rest}
+use Rattle.std.proofs.iter.Yields.{fronts}
+use Rattle.std.proofs.lemmas.Iterator.{YieldsList-from_slice}
+use Rattle.std.proofs.lemmas.Iterator.Consumers.{count_from_yields_List}
+use Rattle.std.proofs.lemmas.Iterator.Search.{all_from_yields_List, YieldsList-from_take_while}
 use lib.Dec.{eqb, leb, eqb-suc-suc}
 use borrow.Author.Tests.{le-leb, lt-leb, leb-true, ne_eqb}
 use Rattle.octets.specs.Lists.{both, between, all, lead, lay, placed}
@@ -78,6 +91,11 @@ module _ (r d : List ℕ) (n : ℕ) (sized : length r ≡ n) where
   pub placed_fits : n ≤ length d → placed r d ≡ lay r d
   unfolding placed
   placed_fits h = rw (sized, le-leb n (length d) h)
+
+  -- as the code has it: the front of d has been replaced by e, which is r
+  pub placed_front : (e : List ℕ) → n ≤ length d → e ≡ r → e ++ drop n d ≡ placed r d
+  unfolding placed lay
+  placed_front e h w = rw (w, sized, le-leb n (length d) h)
 
   pub placed_done : (e : List ℕ) → n ≤ length d → e ≡ lay r d → e ≡ placed r d
   placed_done e h w = w ∙ sym (placed_fits h)
@@ -151,6 +169,28 @@ lead_all p (x ∷ s) =
     by_bool (p x)
     (λ t. rw t (eqb-suc-suc (lead p s) (length s) ∙ lead_all p s))
     (λ t. rw t (ne_eqb 0 (suc (length s)) (λ (e : 0 ≡ suc (length s)). omega arith)))
+
+-- The two as the library has them.
+all_is : (p : ℕ → Bool) (s : List ℕ) → list_all p s ≡ all p s
+all_is p [] = refl
+all_is p (x ∷ s) = by_bool (p x) (λ t. rw t (all_is p s)) (λ t. rw t)
+
+lead_is : (p : ℕ → Bool) (s : List ℕ) → prefix_len p s ≡ lead p s
+lead_is p [] = refl
+lead_is p (x ∷ s) = by_bool (p x) (λ t. rw t (omega (arith, lead_is p s))) (λ t. rw t)
+
+-- `s.iter().all(f)`, where a call of f at a byte answers p of it
+pub tested_all : {F : Type 0} {g : Mut F (Bor ℕ × Unit {0}) Bool} {i j : Iter ℕ} {f : F} (p : ℕ → Bool) (s : List ℕ) (r : Bool)
+    → ChecksAll fronts g i f r j → iter_rest i ≡ s → ((x : Bor ℕ) (b : Bool) (q : F) → Called g f (x, tt) b q → (q ≡ f) × (b ≡ p x.now)) → r ≡ all p s
+tested_all p s r ran from told = all_from_yields_List p _ _ r ran (YieldsList-from_slice s from) told ∙ all_is p s
+
+-- `s.iter().take_while(f).count()`, where a call of f at a byte answers p of it
+pub tested_lead : {F : Type 0} {g : Mut F (Bor (Bor ℕ) × Unit {0}) Bool} {w : TakeWhile (Iter ℕ) F} {f : F} (p : ℕ → Bool) (s : List ℕ) (r : ℕ)
+    → (xs : List (Bor ℕ)) × Drains (take_while_steps fronts g) w xs × (r ≡ length xs) → iter_rest (take_while_source w) ≡ s → take_while_callee w ≡ f → take_while_done w ≡ false
+    → ((x : Bor ℕ) (b : Bool) (q : F) → CalledAt g f x b q → (q ≡ f) × (b ≡ p x.now)) → r ≡ lead p s
+tested_lead p s r ran from callee done told =
+    count_from_yields_List _ r ran (YieldsList-from_take_while _ p (YieldsList-from_slice s from) callee done told)
+    ∙ length-take-le (prefix_len p s) s (rw (lead_is p s) (lead_most p s)) ∙ lead_is p s
 
 pub get_or_map : (f : ℕ → ℕ) (s : List ℕ) (i : ℕ) → i < length s → f (get_or s i 0) ≡ get_or (map f s) i 0
 get_or_map f [] i h = absurd (not-suc-le-zero h)

@@ -1,15 +1,15 @@
 -- Numbers and their digits, over the base and the width. Assumes nothing.
 use Prim.Native.Nat.{ℕ, zero, suc, ◌+◌, ◌-◌, ◌*◌, ◌/◌, ◌%◌, ◌^◌, ◌≤◌, ◌<◌}
-use mathlib.Core.Path.{◌≡◌, refl, sym, ap, ◌∙◌}
+use mathlib.Core.Path.{◌≡◌, refl, sym, ◌∙◌}
 use mathlib.Core.Bool.{Bool, true, false, not, cond}
 use mathlib.Core.List.{List, [], ◌∷◌, ◌++◌, append_assoc, append-nil}
 use native.Mathlib.Omega.{arith}
 use native.Mathlib.Numerals.{add-one}
-use native.Mathlib.Nat.{add-zero, zero-add, mod-lt, mod-eq_of_lt, div-add-mod', div-eq_of_lt, mul-add-mod_self_right, mul-add-div_right, div-lt_iff_lt-mul, pow-zero, pow-suc, pow-le-pow_right, le_antisymm}
-use lib.ListN.{length, take, drop, get_or, set, length-append, length-take}
-use lib.Seq.{drop-cons, drop-length, drop_at, set_split, length-take-le}
+use native.Mathlib.Nat.{add-zero, zero-add, mod-lt, mod-eq_of_lt, div-add-mod', div-eq_of_lt, mul-add-mod_self_right, mul-add-div_right, div-lt_iff_lt-mul, pow-zero, pow-suc, pow-le-pow_right, mul-le-mul_left, mul-le-mul_right, lt_of_mul-lt-mul_right}
+use lib.ListN.{length, take, drop, get_or, set, length-append, length-take, drop_of_length-le}
+use lib.Seq.{drop-cons, drop_at, set_split, length-take-le}
 use lib.Dec.{eqb, leb}
-use borrow.Author.Tests.{eq-eqb, ne_eqb, eqb-true, le-leb, lt-leb}
+use borrow.Author.Tests.{eqb-true, le-leb}
 use Rattle.octets.specs.Lists.{between, all, lay}
 use Rattle.octets.specs.Numbers.{digits, number, is_digit, are_digits}
 use Rattle.octets.proofs.Cases.{both_left, both_right, tested_true}
@@ -31,14 +31,6 @@ digits_between b z hi (suc w) n h k =
 
 -- So many digits, by the length and then each byte.
 module _ (n : ℕ) (s : List ℕ) where
-  pub are_digits_not : (length s ≡ n → ⊥) → false ≡ are_digits n s
-  unfolding are_digits
-  are_digits_not h = rw (ne_eqb (length s) n h)
-
-  pub are_digits_tested : length s ≡ n → (flag : Bool) → flag ≡ all is_digit s → flag ≡ are_digits n s
-  unfolding are_digits
-  are_digits_tested h flag e = rw (eq-eqb (length s) n h, ← e)
-
   -- so many digits are so many bytes
   pub are_digits_room : (flag : Bool) → flag ≡ are_digits n s → not flag ≡ false → (k : ℕ) → k ≤ n → k ≤ length s
   unfolding are_digits
@@ -70,9 +62,9 @@ pub number_more : (b z n d : ℕ) (s : List ℕ) (i : ℕ) → i < length s → 
 unfolding number
 number_more b z n d s i h e = rw (add-one, drop-cons s i 0 h, e)
 
-pub number_end : (b z n : ℕ) (s : List ℕ) → number b z n (drop (length s) s) ≡ n
+pub number_done : (b z n i : ℕ) (s : List ℕ) → number b z 0 s ≡ number b z n (drop i s) → length s ≤ i → n ≡ number b z 0 s
 unfolding number
-number_end b z n s = rw drop-length
+number_done b z n i s e h = sym (e ∙ rw (drop_of_length-le s {i = i} h))
 
 number_append : (b z a : ℕ) (s t : List ℕ) → number b z a (s ++ t) ≡ number b z (number b z a s) t
 unfolding number
@@ -113,29 +105,23 @@ module _ (b z hi : ℕ) (base : 0 < b) (digit : suc hi ≤ z + b) where
   unfolding digits
   digits_number s t = rw (← zero-add (length s)) (digits_from s t 0 0)
 
--- Room for what is read: a sum that stays below a multiple of a power.
-pub ten_more : (n d i : ℕ) → n + 29 ≤ 29 * 10 ^ i → d < 256 → (n * 10 + d) + 29 ≤ 29 * 10 ^ (i + 1)
-ten_more n d i h k = rw (add-one, pow-suc) (omega arith)
+-- Room for what is read, in a base over 1: a number of i digits that are each worth at most 255.
+bound_more : (c n d i : ℕ) → n * c + 255 ≤ 255 * suc c ^ i → d ≤ 255 → (n * suc c + d) * c + 255 ≤ 255 * suc c ^ (i + 1)
+bound_more c n d i h k = rw (add-one i, pow-suc (suc c) i) (omega (arith, mul-le-mul_right (suc c) h, mul-le-mul_right c k))
 
-pub byte_more : (n d i : ℕ) → n + 1 ≤ 256 ^ i → d < 256 → (n * 256 + d) + 1 ≤ 256 ^ (i + 1)
-byte_more n d i h k = omega (arith, ap (λ (k : ℕ). 256 ^ k) (add-one i), pow-suc 256 i)
+pub number_bound : (b n d i : ℕ) → 1 < b → n * (b - 1) + 255 ≤ 255 * b ^ i → d < 256 → (n * b + d) * (b - 1) + 255 ≤ 255 * b ^ (i + 1)
+number_bound zero n d i p h k = absurd (omega arith)
+number_bound (suc c) n d i p h k =
+    let e : suc c - 1 ≡ c = omega arith in
+    rw e (bound_more c n d i (rw e at h) (omega arith))
 
-pub ten_most : (n i : ℕ) → n + 29 ≤ 29 * 10 ^ i → i ≤ 16 → n ≤ 290000000000000000
-ten_most n i h k = omega (arith, pow-le-pow_right {n = 10} (omega arith) {i = i} {j = 16} k)
+pub number_fits : (b n d i w : ℕ) → 1 < b → n * (b - 1) + 255 ≤ 255 * b ^ i → d < 256 → i < w → 255 * b ^ w ≤ (b - 1) * 2 ^ 64 → n * b + d < 2 ^ 64
+number_fits b n d i w p h k l r =
+    let t : 255 * b ^ (i + 1) ≤ 255 * b ^ w = mul-le-mul_left 255 (pow-le-pow_right {n = b} (omega arith) {i = i + 1} {j = w} (omega arith)) in
+    let u : (n * b + d) * (b - 1) + 255 ≤ 255 * b ^ (i + 1) = number_bound b n d i p h k in
+    lt_of_mul-lt-mul_right (b - 1) (omega arith)
 
-pub byte_most : (n i : ℕ) → n + 1 ≤ 256 ^ i → i ≤ 7 → n < 72057594037927936
-byte_most n i h k = omega (arith, pow-le-pow_right {n = 256} (omega arith) {i = i} {j = 7} k)
-
--- A reader of at most m bytes, at its two ends.
-pub number_over : (b z m : ℕ) (s : List ℕ) → m < length s → 0 ≡ cond (leb (length s) m) (number b z 0 s) 0
-number_over b z m s h = rw (lt-leb (length s) m h)
-
-pub number_within : (b z m n i : ℕ) (s : List ℕ) → length s ≤ m → i ≤ length s → length s ≤ i → number b z 0 s ≡ number b z n (drop i s) → n ≡ cond (leb (length s) m) (number b z 0 s) 0
-number_within b z m n i s h l u e =
-    let z' : i ≡ length s = le_antisymm l u in
-    rw (le-leb (length s) m h) (sym (e ∙ rw z' (number_end b z n s)))
-
--- What it answers of no more bytes than that, and of a part so short.
+-- What a reader of at most m bytes answers of no more, and of a part so short.
 pub number_read : (b z m n : ℕ) (s : List ℕ) → length s ≤ m → n ≡ cond (leb (length s) m) (number b z 0 s) 0 → n ≡ number b z 0 s
 number_read b z m n s h e = e ∙ rw (le-leb (length s) m h)
 

@@ -1,9 +1,9 @@
 -- Numerals: how long they are, that they spell their number, and that none has a leading zero. Assumes nothing.
-use Prim.Native.Nat.{ℕ, zero, suc, ◌+◌, ◌/◌, ◌%◌, ◌^◌, ◌≤◌, ◌<◌}
-use mathlib.Core.Path.{◌≡◌, refl, sym, ap, ◌∙◌}
+use Prim.Native.Nat.{ℕ, zero, suc, ◌+◌, ◌*◌, ◌/◌, ◌%◌, ◌^◌, ◌≤◌, ◌<◌, max}
+use mathlib.Core.Path.{◌≡◌, refl, sym}
 use mathlib.Core.List.{List, [], ◌∷◌, ◌++◌, append_assoc, append-nil}
 use native.Mathlib.Omega.{arith}
-use native.Mathlib.Nat.{pow-suc, div-lt_iff_lt-mul}
+use native.Mathlib.Nat.{one-le-pow, pow-suc, pow-le-pow_right, div-lt_iff_lt-mul}
 use lib.ListN.{length, get_or}
 use borrow.Author.Tests.{lt-ltb, le-ltb}
 use Rattle.octets.specs.Numbers.{digits, decimal, decimal_of}
@@ -24,24 +24,6 @@ within_none n = refl
 within_more : (k n : ℕ) → 10 ≤ n → digits_within (suc k) n ≡ suc (digits_within k (n / 10))
 unfolding digits_within
 within_more k n h = rw (digits_within, le-ltb n 10 h)
-
--- how many are counted does not matter where all are
-within_same : (j k n : ℕ) → n ≤ j → n ≤ k → digits_within j n ≡ digits_within k n
-within_same zero k n h l = within_one 0 n (omega arith) ∙ sym (within_one k n (omega arith))
-within_same (suc j) zero n h l = within_one (suc j) n (omega arith) ∙ sym (within_one 0 n (omega arith))
-within_same (suc j) (suc k) n h l =
-    by_lt n 10
-    (λ s. within_one (suc j) n s ∙ sym (within_one (suc k) n s))
-    (λ s. within_more j n s ∙ ap suc (within_same j k (n / 10) (omega arith) (omega arith)) ∙ sym (within_more k n s))
-
-pub count_one : (n : ℕ) → n < 10 → digit_count n ≡ 1
-unfolding digit_count
-count_one n h = within_one n n h
-
-pub count_more : (n : ℕ) → 10 ≤ n → digit_count n ≡ suc (digit_count (n / 10))
-unfolding digit_count
-count_more zero h = absurd (omega arith)
-count_more (suc n) h = within_more n (suc n) h ∙ ap suc (within_same n (suc n / 10) (suc n / 10) (omega arith) (omega arith))
 
 -- no more of them than the number needs
 within_most : (k w n : ℕ) → n < 10 ^ suc w → digits_within k n ≤ suc w
@@ -67,6 +49,17 @@ within_enough (suc k) n h =
     (λ s.
     let t : n / 10 < 10 ^ digits_within k (n / 10) = within_enough k (n / 10) (omega arith) in
     rw (within_more k n s, pow-suc) ((div-lt_iff_lt-mul {k = 10} (omega arith)).0 t))
+
+-- one more than the power of ten that it reaches; 0 has one digit, as 1 has
+pub count_power : (n k : ℕ) → 10 ^ k ≤ max n 1 → max n 1 < 10 * 10 ^ k → k + 1 ≡ digit_count n
+unfolding digit_count
+count_power zero zero l u = sym (within_none 0)
+count_power zero (suc k) l u = absurd (omega (arith, pow-suc 10 k, one-le-pow k 10 (omega arith)))
+count_power (suc n) k l u =
+    let most : digits_within (suc n) (suc n) ≤ suc k = within_most (suc n) k (suc n) (rw pow-suc (omega arith)) in
+    by_lt k (digits_within (suc n) (suc n))
+    (λ h. omega arith)
+    (λ h. absurd (omega (arith, within_enough (suc n) (suc n) (omega arith), pow-le-pow_right {n = 10} (omega arith) {i = digits_within (suc n) (suc n)} {j = k} h)))
 
 pub numeral_length : (n : ℕ) → length (numeral n) ≡ digit_count n
 unfolding numeral

@@ -1,9 +1,9 @@
 // Bytes and the numbers written in them. Nothing here knows of ISO 8583.
 #![tactic(auto)]
 
-ghost use Rattle.std.specs.Prelude.{◌≡◌, cond, ◌+◌, ◌-◌, ◌≤◌, ◌<◌, length, replicate, leb};
+ghost use Rattle.std.specs.Prelude.{◌≡◌, cond, ◌+◌, ◌-◌, ◌*◌, ◌^◌, ◌≤◌, ◌<◌, length, replicate, leb};
 ghost use Rattle.octets.specs.Lists.{all, between, lead, lay, placed};
-ghost use Rattle.octets.specs.Numbers.{are_digits, digits, decimal, decimal_of, big_endian, big_endian_of};
+ghost use Rattle.octets.specs.Numbers.{are_digits, digits, number, decimal, decimal_of, big_endian, big_endian_of};
 ghost use Rattle.octets.specs.Numerals.{digit_count, numeral};
 
 // The last byte of ASCII.
@@ -18,68 +18,41 @@ pub fn wide(b: u8) -> usize
 }
 
 // Whether b lies between low and high.
+#[tactic(auto, unfolding(crate::specs::Lists::between))]
 pub fn is_between(b: u8, low: u8, high: u8) -> bool
     ensures { result ≡ between low high b }
 {
-    if b < low {
-        return false;
-    }
-    b <= high
+    low <= b && b <= high
 }
 
 // How many bytes at the front of s lie between low and high, up to the first that does not.
 pub fn lead_between(s: &[u8], low: u8, high: u8) -> usize
     ensures { result ≡ lead (between low high) s.now }
 {
-    let mut i: usize = 0;
-    while i < s.len() {
-        let b = s[i];
-        if b < low {
-            return i;
-        }
-        if high < b {
-            return i;
-        }
-        i += 1;
-    }
-    i
+    s.iter().take_while(|b| is_between(**b, low, high)).count()
 }
 
 // Whether each byte of s lies between low and high.
 pub fn all_between(s: &[u8], low: u8, high: u8) -> bool
     ensures { result ≡ all (between low high) s.now }
 {
-    lead_between(s, low, high) == s.len()
+    s.iter().all(|b| is_between(*b, low, high))
 }
 
 // Whether s is n bytes long, all of them ASCII digits.
+#[tactic(auto, unfolding(crate::specs::Numbers::are_digits))]
 pub fn are_digits(n: usize, s: &[u8]) -> bool
     ensures { result ≡ are_digits n s.now }
 {
-    if s.len() != n {
-        return false;
-    }
-    all_between(s, b'0', b'9')
+    s.len() == n && all_between(s, b'0', b'9')
 }
 
 // Copies all of src to the front of out. Where it does not fit, out is left as it is.
 pub fn put(src: &[u8], out: &mut [u8])
     ensures { out.new ≡ placed src.now out.old }
 {
-    if out.len() < src.len() {
-        return;
-    }
-    put_fitting(src, out);
-}
-
-fn put_fitting(src: &[u8], out: &mut [u8])
-    requires { length src.now ≤ length out.old }
-    ensures { out.new ≡ lay src.now out.old }
-{
-    let mut i = 0;
-    while i < src.len() {
-        out[i] = src[i];
-        i += 1;
+    if src.len() <= out.len() {
+        out[..src.len()].copy_from_slice(src);
     }
 }
 
@@ -87,20 +60,8 @@ fn put_fitting(src: &[u8], out: &mut [u8])
 pub fn fill(out: &mut [u8], n: usize, b: u8)
     ensures { out.new ≡ placed (replicate n b) out.old }
 {
-    if out.len() < n {
-        return;
-    }
-    fill_fitting(out, n, b);
-}
-
-fn fill_fitting(out: &mut [u8], n: usize, b: u8)
-    requires { n ≤ length out.old }
-    ensures { out.new ≡ lay (replicate n b) out.old }
-{
-    let mut i = 0;
-    while i < n {
-        out[i] = b;
-        i += 1;
+    if n <= out.len() {
+        out[..n].fill(b);
     }
 }
 
@@ -108,20 +69,18 @@ fn fill_fitting(out: &mut [u8], n: usize, b: u8)
 pub fn put_decimal(n: usize, w: usize, out: &mut [u8])
     ensures { out.new ≡ placed (decimal w n) out.old }
 {
-    if out.len() < w {
-        return;
+    if w <= out.len() {
+        put_digits(n, 10, b'0', w, out);
     }
-    put_digits(n, 10, b'0', w, out);
 }
 
 // Writes n in w bytes, the highest first: its last w bytes where it has more. Where they do not fit, out is left as it is.
 pub fn put_big_endian(n: usize, w: usize, out: &mut [u8])
     ensures { out.new ≡ placed (big_endian w n) out.old }
 {
-    if out.len() < w {
-        return;
+    if w <= out.len() {
+        put_digits(n, 256, 0, w, out);
     }
-    put_digits(n, 256, 0, w, out);
 }
 
 fn put_digits(n: usize, base: usize, first: u8, w: usize, out: &mut [u8])
@@ -131,11 +90,9 @@ fn put_digits(n: usize, base: usize, first: u8, w: usize, out: &mut [u8])
     ensures { out.new ≡ lay (digits base first w n) out.old }
 {
     let mut left = n;
-    let mut k = w;
-    while 0 < k {
-        k -= 1;
+    for k in (0..w).rev() {
         out[k] = first + (left % base) as u8;
-        left = left / base;
+        left /= base;
     }
 }
 
@@ -143,41 +100,33 @@ fn put_digits(n: usize, base: usize, first: u8, w: usize, out: &mut [u8])
 pub fn decimal_of(s: &[u8]) -> usize
     ensures { result ≡ cond (leb (length s.now) 16) (decimal_of s.now) 0 }
 {
-    if 16 < s.len() {
-        return 0;
+    if s.len() <= 16 {
+        number_of(s, 10, b'0')
+    } else {
+        0
     }
-    let mut n: usize = 0;
-    let mut i: usize = 0;
-    while i < s.len() {
-        n = n * 10 + digit_value(s[i]);
-        i += 1;
-    }
-    n
-}
-
-// What a digit is worth; a byte below `0` counts as 0.
-fn digit_value(b: u8) -> usize
-    ensures value { result ≡ b - 48 }
-    ensures small { result < 256 }
-{
-    if b < b'0' {
-        return 0;
-    }
-    (b - b'0') as usize
 }
 
 // The number that big-endian bytes spell, up to eight of them; 0 where there are more.
 pub fn big_endian_of(s: &[u8]) -> usize
     ensures { result ≡ cond (leb (length s.now) 8) (big_endian_of s.now) 0 }
 {
-    if 8 < s.len() {
-        return 0;
+    if s.len() <= 8 {
+        number_of(s, 256, 0)
+    } else {
+        0
     }
-    let mut n: usize = 0;
-    let mut i: usize = 0;
-    while i < s.len() {
-        n = n * 256 + wide(s[i]);
-        i += 1;
+}
+
+// The number that s spells in the base, where the byte first is the digit 0, as every byte below it.
+fn number_of(s: &[u8], base: usize, first: u8) -> usize
+    requires digits { 1 < base }
+    requires fits { 255 * base ^ length s.now ≤ (base - 1) * 2 ^ 64 }
+    ensures { result ≡ number base first 0 s.now }
+{
+    let mut n = 0;
+    for b in s {
+        n = n * base + usize::from(b.saturating_sub(first));
     }
     n
 }
@@ -186,13 +135,7 @@ pub fn big_endian_of(s: &[u8]) -> usize
 pub fn digit_count(n: usize) -> usize
     ensures { result ≡ digit_count n }
 {
-    let mut left = n;
-    let mut count: usize = 1;
-    while 10 <= left {
-        left = left / 10;
-        count += 1;
-    }
-    count
+    n.max(1).ilog10() as usize + 1
 }
 
 // Writes n in decimal digits without leading zeros, and answers how many they are. Where they do not fit, out is left as it is.

@@ -1,27 +1,8 @@
--- The whole spells what n and the bytes from i on spell; n is small enough for a byte more.
-use mathlib.Core.Path.{◌∙◌}
-use Rattle.octets.proofs.Numbers.{number_over, number_within, number_more, byte_more, byte_most}
-use borrow.Author.Rules.{rules}
+-- Eight bytes fit.
+use lib.ListN.{length}
+use native.Mathlib.Nat.{pow-le-pow_right}
 use native.Mathlib.Omega.{arith}
 use Rattle.octets.proofs.big_endian_of.Goals as goal
 
-pub returns-then-s-gt8 : goal.returns-then-s-gt8
-returns-then-s-gt8 c = search (number_over, rules)
-
-pub overflow_mul-n : goal.overflow_mul-n
-overflow_mul-n c = omega (arith, byte_most _ _ c.loop-i.invariant.1.0 (omega arith))
-
-pub overflow_add-n : goal.overflow_add-n
-overflow_add-n c = omega (arith, byte_most _ _ c.loop-i.invariant.1.0 (omega arith), c.wide.ensures.small)
-
-pub loop-i-preserved : goal.loop-i-preserved
-loop-i-preserved c = (
-  omega arith,
-  (
-    byte_more _ _ _ c.loop-i.invariant.1.0 c.wide.ensures.small,
-    c.loop-i.invariant.1.1 ∙ number_more _ _ _ _ _ _ c.loop-i-test.true (omega (arith, c.wide.ensures.value)),
-  ),
-)
-
-pub returns : goal.returns
-returns c = search (number_within, rules)
+pub number_of-requires-clause-fits : goal.number_of-requires-clause-fits
+number_of-requires-clause-fits c = omega (arith, pow-le-pow_right {n = 256} (omega arith) {i = length c.args.s.now} {j = 8} c.if-s-le8.true)

@@ -1,16 +1,8 @@
--- The front that passes is i bytes and the front of what is left from i on.
-use Rattle.octets.proofs.Lists.{is_between, below_low, above_high, lead_next, lead_stops, lead_ends}
+-- Each call of the closure answers whether the byte lies between low and high.
 use borrow.Author.Rules.{rules}
+use Rattle.octets.specs.Lists.{between}
+use Rattle.octets.proofs.Lists.{tested_lead}
 use Rattle.octets.proofs.lead_between.Goals as goal
 
-pub returns-then-b-low : goal.returns-then-b-low
-returns-then-b-low c = search (lead_stops, below_low, rules)
-
-pub returns-then-high-b : goal.returns-then-high-b
-returns-then-high-b c = search (lead_stops, above_high, rules)
-
-pub loop-i-preserved : goal.loop-i-preserved
-loop-i-preserved c = (search rules, search (lead_next, is_between, rules))
-
 pub returns : goal.returns
-returns c = search (lead_ends, rules)
+returns c = tested_lead (between c.args.low c.args.high) c.args.s.now _ c.count.ensures.ran (cc) c.take_while.ensures.closure c.take_while.ensures.done (λ x b q k. search rules)

@@ -4,8 +4,8 @@ use Rattle.octets.proofs.Numbers.{digits_length}
 use borrow.Author.Rules.{rules}
 use Rattle.octets.proofs.put_big_endian.Goals as goal
 
-pub returns-then-out-w : goal.returns-then-out-w
-returns-then-out-w c = placed_short _ _ _ (digits_length _ _ _ _) c.if-out-w.true
+pub returns-then-w-out : goal.returns-then-w-out
+returns-then-w-out c = search (placed_done, digits_length, rules)
 
-pub returns : goal.returns
-returns c = search (placed_done, digits_length, rules)
+pub returns-else-w-out : goal.returns-else-w-out
+returns-else-w-out c = search (placed_short, digits_length, rules)
