@@ -1,7 +1,7 @@
 -- The tests of a source, at each of their ends and with the facts as the code has them. Assumes nothing.
 use Prim.Native.Nat.{ℕ, ◌/◌, ◌%◌}
 use mathlib.Core.Path.{◌≡◌, refl, sym, ◌∙◌}
-use mathlib.Core.Bool.{true}
+use mathlib.Core.Bool.{true, Bool, false, not}
 use mathlib.Core.List.{List, [], ◌∷◌}
 use native.Mathlib.Omega.{arith}
 use lib.ListN.{length, get_or}
@@ -44,17 +44,3 @@ decode_spare n s o z = rw (ne_eqb (n % 2) 0 (λ e. omega arith)) at (both_right 
 -- n digits come out of a source without fault
 pub unpacked_sized : (fault : Test) (n : ℕ) (s : List ℕ) → fault ≡ decode_fault n s → fault ≡ good → length (unpacked n s) ≡ n
 unpacked_sized fault n s e z = unpacked_length n s (decode_clean fault n s e z)
-
--- the three ends of the test of the spare digit
-pub spare_even : (n : ℕ) (s : List ℕ) → n % 2 ≡ 0 → true ≡ spare_zero n s
-unfolding spare_zero
-spare_even n s h = rw (eq-eqb (n % 2) 0 h)
-
-pub spare_none : (n : ℕ) (s : List ℕ) → (n % 2 ≡ 0 → ⊥) → length s ≡ 0 → true ≡ spare_zero n s
-unfolding spare_zero
-spare_none n [] h k = rw (ne_eqb (n % 2) 0 h)
-spare_none n (b ∷ s) h k = absurd (omega arith)
-
-pub spare_odd : (n : ℕ) (s : List ℕ) → (n % 2 ≡ 0 → ⊥) → eqb (get_or s 0 0 / 16) 0 ≡ spare_zero n s
-unfolding spare_zero
-spare_odd n s h = rw (ne_eqb (n % 2) 0 h)

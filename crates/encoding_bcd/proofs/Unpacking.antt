@@ -1,13 +1,13 @@
 -- Bytes into digits, over the digit count. Assumes nothing.
 use Prim.Native.Nat.{ℕ, zero, suc, ◌+◌, ◌/◌, ◌%◌, ◌<◌, ◌≤◌}
 use mathlib.Core.Path.{◌≡◌, refl}
-use mathlib.Core.Bool.{true, false}
+use mathlib.Core.Bool.{true}
 use mathlib.Core.List.{List, [], ◌∷◌}
 use native.Mathlib.Omega.{arith}
 use lib.Dec.{leb}
 use lib.ListN.{length, get_or, length-drop}
 use lib.Seq.{get_or-drop}
-use borrow.Author.Tests.{le-leb, lt-leb, leb-true}
+use borrow.Author.Tests.{le-leb, leb-true}
 use Rattle.octets.proofs.Cases.{both_left, both_right}
 use Rattle.encoding_bcd.specs.Bcd.{bytes_of, spread, unpacked, is_bcd}
 
@@ -42,20 +42,7 @@ pub unpacked_at : (n : ℕ) (s : List ℕ) (i : ℕ) → get_or (spread s) (n % 
 unfolding unpacked
 unpacked_at n s i = rw get_or-drop
 
--- the ends of `is_bcd`
-pub high_over : (b : ℕ) → 9 < b / 16 → false ≡ is_bcd b
-unfolding is_bcd
-high_over b h = rw (lt-leb (b / 16) 9 h)
-
-pub high_good : (b : ℕ) → b / 16 ≤ 9 → leb (b % 16) 9 ≡ is_bcd b
-unfolding is_bcd
-high_good b h = rw (le-leb (b / 16) 9 h)
-
 -- is_bcd as facts
-pub none_over : (b : ℕ) → b / 16 ≤ 9 → b % 16 ≤ 9 → is_bcd b ≡ true
-unfolding is_bcd
-none_over b h k = rw (le-leb (b / 16) 9 h, le-leb (b % 16) 9 k)
-
 pub high_most : (b : ℕ) → is_bcd b ≡ true → b / 16 ≤ 9
 unfolding is_bcd
 high_most b t = leb-true (b / 16) 9 (both_left (leb (b / 16) 9) (leb (b % 16) 9) t)
@@ -63,3 +50,7 @@ high_most b t = leb-true (b / 16) 9 (both_left (leb (b / 16) 9) (leb (b % 16) 9)
 pub low_most : (b : ℕ) → is_bcd b ≡ true → b % 16 ≤ 9
 unfolding is_bcd
 low_most b t = leb-true (b % 16) 9 (both_right (leb (b / 16) 9) (leb (b % 16) 9) t)
+
+pub none_over : (b : ℕ) → b / 16 ≤ 9 → b % 16 ≤ 9 → is_bcd b ≡ true
+unfolding is_bcd
+none_over b h k = rw (le-leb (b / 16) 9 h, le-leb (b % 16) 9 k)

@@ -57,13 +57,10 @@ fn put_packed(src: &[u8], out: &mut [u8])
     requires room { bytes_of (length src.now) ≤ length out.old }
     ensures { out.new ≡ lay (packed src.now) out.old }
 {
-    let n = bytes_of(src.len());
-    let mut k: usize = 0;
-    while k < n {
+    for k in 0..bytes_of(src.len()) {
         let high = value_at(src, 2 * k);
         let low = value_at(src, 2 * k + 1);
         out[k] = high * 16 + low;
-        k += 1;
     }
 }
 
@@ -75,10 +72,7 @@ fn value_at(src: &[u8], j: usize) -> u8
     ensures small { result ≤ 9 }
 {
     let odd = src.len() % 2;
-    if j < odd {
-        return 0;
-    }
-    src[j - odd] - b'0'
+    if j < odd { 0 } else { src[j - odd] - b'0' }
 }
 
 // What is wrong with src as the BCD of so many digits: 23, then 22; 0 where nothing is.
@@ -98,37 +92,23 @@ pub fn decode_fault(src: &[u8], digits: usize) -> Result<(), Cause>
 fn all_bcd(src: &[u8]) -> bool
     ensures { result ≡ all is_bcd src.now }
 {
-    let mut i: usize = 0;
-    while i < src.len() {
-        if !is_bcd(src[i]) {
-            return false;
-        }
-        i += 1;
-    }
-    true
+    src.iter().all(|b| is_bcd(*b))
 }
 
 // Whether neither half of b is over 9.
+#[tactic(auto, unfolding(crate::specs::Bcd::is_bcd))]
 pub fn is_bcd(b: u8) -> bool
     ensures { result ≡ is_bcd b }
 {
-    if 9 < b / 16 {
-        return false;
-    }
-    b % 16 <= 9
+    b / 16 <= 9 && b % 16 <= 9
 }
 
 // Whether the spare leading digit is 0, where the count is odd and there is one.
+#[tactic(auto, unfolding(crate::specs::Bcd::spare_zero))]
 fn spare_zero(src: &[u8], digits: usize) -> bool
     ensures { result ≡ spare_zero digits src.now }
 {
-    if digits % 2 == 0 {
-        return true;
-    }
-    if src.len() == 0 {
-        return true;
-    }
-    src[0] / 16 == 0
+    digits % 2 == 0 || src.is_empty() || src[0] / 16 == 0
 }
 
 fn put_unpacked(src: &[u8], digits: usize, out: &mut [u8])
@@ -137,10 +117,8 @@ fn put_unpacked(src: &[u8], digits: usize, out: &mut [u8])
     ensures { out.new ≡ lay (unpacked digits src.now) out.old }
 {
     let odd = digits % 2;
-    let mut i: usize = 0;
-    while i < digits {
+    for i in 0..digits {
         out[i] = digit_at(src, odd + i);
-        i += 1;
     }
 }
 
@@ -151,7 +129,8 @@ fn digit_at(src: &[u8], j: usize) -> u8
 {
     let b = src[j / 2];
     if j % 2 == 0 {
-        return b'0' + b / 16;
+        b'0' + b / 16
+    } else {
+        b'0' + b % 16
     }
-    b'0' + b % 16
 }

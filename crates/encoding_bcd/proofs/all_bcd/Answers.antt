@@ -1,14 +1,8 @@
--- So far the whole test is the test of what is left from i on.
-use Rattle.octets.proofs.Cases.{tested_true, tested_false}
-use Rattle.octets.proofs.Lists.{all_next, all_false, all_true}
+-- Each call of the closure answers whether neither half of the byte is over 9.
 use borrow.Author.Rules.{rules}
+use Rattle.octets.proofs.Lists.{tested_all}
+use Rattle.encoding_bcd.specs.Bcd.{is_bcd}
 use Rattle.encoding_bcd.proofs.all_bcd.Goals as goal
 
-pub returns-then-not-is_bcd : goal.returns-then-not-is_bcd
-returns-then-not-is_bcd c = search (all_false, tested_false, rules)
-
-pub loop-i-preserved : goal.loop-i-preserved
-loop-i-preserved c = (search rules, search (all_next, tested_true, rules))
-
 pub returns : goal.returns
-returns c = search (all_true, rules)
+returns c = tested_all is_bcd c.args.src.now _ c.all.ensures.ran (cc) (λ x b q k. search rules)

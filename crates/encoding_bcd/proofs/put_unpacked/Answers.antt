@@ -10,14 +10,9 @@ pub loop-i-init : goal.loop-i-init
 loop-i-init c = search (laid_none, rules)
 
 pub loop-i-preserved : goal.loop-i-preserved
-loop-i-preserved c = (
-  search rules,
-  (
-    laid_step _ _ _ _ _ c.loop-i.invariant.1.0
-        (omega (arith, unpacked_length c.args.digits c.args.src.now (search rules))) (search rules) (c.digit_at.ensures ∙ unpacked_at _ _ _),
-    search rules,
-  ),
-)
+loop-i-preserved c =
+    laid_step _ _ _ _ _ c.loop-i.invariant (omega (arith, unpacked_length c.args.digits c.args.src.now (search rules))) (search rules)
+    (c.digit_at.ensures ∙ unpacked_at _ _ _)
 
 pub returns : goal.returns
 returns c = search (laid_all, unpacked_length, rules)

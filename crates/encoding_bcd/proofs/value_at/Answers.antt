@@ -9,15 +9,17 @@ use borrow.Author.Rules.{rules}
 use native.Mathlib.Omega.{arith}
 use Rattle.encoding_bcd.proofs.value_at.Goals as goal
 
-pub returns-then-j-odd : goal.returns-then-j-odd
-returns-then-j-odd c = record { value = value_spare c.args.src.now c.args.j (omega (arith, c.if-j-odd.true)); small = search rules }
+pub returns-then-j-odd-clause-value : goal.returns-then-j-odd-clause-value
+returns-then-j-odd-clause-value c = search (value_spare, rules)
 
 pub bounds-src-j : goal.bounds-src-j
 bounds-src-j c = omega (arith, evened_length c.args.src.now)
 
-pub overflow_sub-result-2 : goal.overflow_sub-result-2
-overflow_sub-result-2 c = between_low 48 57 _ (all_at is_digit c.args.src.now (c.args.j - length c.args.src.now % 2) (search rules) (omega (arith, evened_length c.args.src.now)))
+pub overflow_sub-result-else-j-odd : goal.overflow_sub-result-else-j-odd
+overflow_sub-result-else-j-odd c = between_low 48 57 _ (all_at is_digit c.args.src.now (c.args.j - length c.args.src.now % 2) (search rules) (omega (arith, evened_length c.args.src.now)))
 
-pub returns : goal.returns
-returns c = let h = between_high 48 57 _ (all_at is_digit c.args.src.now (c.args.j - length c.args.src.now % 2) (search rules) (omega (arith, evened_length c.args.src.now))) in
-    record { value = ap (λ (x : ℕ). x - 48) (sym (value_real c.args.src.now c.args.j (search rules))); small = omega arith }
+pub returns-else-j-odd-clause-value : goal.returns-else-j-odd-clause-value
+returns-else-j-odd-clause-value c = ap (λ (x : ℕ). x - 48) (sym (value_real c.args.src.now c.args.j (search rules)))
+
+pub returns-else-j-odd-clause-small : goal.returns-else-j-odd-clause-small
+returns-else-j-odd-clause-small c = omega (arith, between_high 48 57 _ (all_at is_digit c.args.src.now (c.args.j - length c.args.src.now % 2) (search rules) (omega (arith, evened_length c.args.src.now))))
