@@ -1,37 +1,31 @@
 -- The tests of a source, at each of their ends and with the facts as the code has them. Assumes nothing.
-use Prim.Native.Nat.{ℕ, ◌≤◌, ◌<◌}
+use Prim.Native.Nat.{ℕ, ◌<◌}
 use mathlib.Core.Path.{◌≡◌}
-use mathlib.Core.Bool.{true, false}
+use mathlib.Core.Bool.{Bool, true, false}
 use mathlib.Core.List.{List}
 use native.Mathlib.Omega.{arith}
-use lib.ListN.{length, get_or, drop}
+use lib.ListN.{get_or}
+use lib.Dec.{leb}
 use Rattle.octets.specs.Lists.{all}
 use Rattle.octets.specs.Numbers.{is_ascii}
 use Rattle.octets.proofs.Cases.{by_bool}
-use Rattle.octets.proofs.Lists.{is_between, above_high, all_false, all_true}
+use Rattle.octets.proofs.Lists.{up_to_high, all_same}
 use Rattle.refusal.specs.Numbers.{no_ascii_meaning}
 use Rattle.refusal.specs.Refusals.{good, bad}
 use Rattle.refusal.proofs.Tests.{bad_good}
-use Rattle.encoding_ebcdic.specs.Ebcdic.{ascii_of, means_ascii, encode_fault, decode_fault}
+use Rattle.encoding_ebcdic.specs.Ebcdic.{table, ascii_of, means_ascii, encode_fault, decode_fault}
+use Rattle.encoding_ebcdic.proofs.Permutation.{read_means}
 
--- decoding: a is the meaning of the byte b
-pub no_meaning : (a b : ℕ) → a ≡ ascii_of b → 127 < a → means_ascii b ≡ false
+-- decoding: whether the entry of t at x is ASCII, and what that says where t is the table
+abbrev pub entry_passes : List ℕ → ℕ → Bool
+entry_passes t x = leb (get_or t x 0) 127
+
+entry_tells : (t : List ℕ) (b : ℕ) → t ≡ table → b < 256 → entry_passes t b ≡ means_ascii b
 unfolding means_ascii
-no_meaning a b e h = rw (← e) (above_high 0 127 a (omega arith) h)
+entry_tells t b e h = rw (read_means t e b h) (up_to_high 0 127 (ascii_of b) (omega arith))
 
-pub a_meaning : (a b : ℕ) → a ≡ ascii_of b → a ≤ 127 → means_ascii b ≡ true
-unfolding means_ascii
-a_meaning a b e h = rw (← e) (is_between 0 127 a (omega arith) h)
-
--- a loop that has tested up to i
-module _ (s : List ℕ) (i : ℕ) (so_far : all means_ascii s ≡ all means_ascii (drop i s)) where
-  pub meaning_fails : i < length s → means_ascii (get_or s i 0) ≡ false → bad no_ascii_meaning ≡ decode_fault s
-  unfolding decode_fault
-  meaning_fails h t = rw (← all_false means_ascii s i so_far h t)
-
-  pub meaning_passes : length s ≤ i → good ≡ decode_fault s
-  unfolding decode_fault
-  meaning_passes h = rw (← all_true means_ascii s i so_far h)
+pub entries_tell : (t s : List ℕ) → t ≡ table → ((i : ℕ) → get_or s i 0 < 256) → all (entry_passes t) s ≡ all means_ascii s
+entries_tell t s e bytes = all_same (entry_passes t) means_ascii s (λ i h. entry_tells t (get_or s i 0) e (bytes i))
 
 -- what a source without fault is
 pub encode_clean : (s : List ℕ) → encode_fault s ≡ good → all is_ascii s ≡ true

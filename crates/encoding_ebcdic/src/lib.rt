@@ -4,9 +4,9 @@
 mod inverse;
 
 ghost use Rattle.std.specs.Prelude.{◌≡◌, map, ◌≤◌, length};
-ghost use Rattle.octets.specs.Lists.{lay};
+ghost use Rattle.octets.specs.Lists.{all, lay};
 ghost use Rattle.refusal.specs.Refusals.{told, converted, converted_into};
-ghost use Rattle.encoding_ebcdic.specs.Ebcdic.{table, ascii_of, ebcdic_of, entry_in, encode_fault, decode_fault};
+ghost use Rattle.encoding_ebcdic.specs.Ebcdic.{table, ascii_of, ebcdic_of, entry_in, means_ascii, encode_fault, decode_fault};
 
 use inverse::INVERSE;
 use octets::all_between;
@@ -68,29 +68,32 @@ fn encode_fault(src: &[u8]) -> Result<(), Cause>
     Ok(())
 }
 
+#[tactic(auto, unfolding(crate::specs::Ebcdic::decode_fault))]
 fn decode_fault(src: &[u8], meanings: &[u8; 256]) -> Result<(), Cause>
     requires { meanings.now ≡ table }
     ensures { result ≡ decode_fault src.now }
 {
-    let mut i = 0;
-    while i < src.len() {
-        if 0x7F < meanings[src[i] as usize] {
-            return Err(Cause::NoAsciiMeaning);
-        }
-        i += 1;
+    if !all_mean_ascii(src, meanings) {
+        return Err(Cause::NoAsciiMeaning);
     }
     Ok(())
 }
 
+// Whether each byte of src means an ASCII byte.
+fn all_mean_ascii(src: &[u8], meanings: &[u8; 256]) -> bool
+    requires { meanings.now ≡ table }
+    ensures { result ≡ all means_ascii src.now }
+{
+    src.iter().all(|b| meanings[usize::from(*b)] <= 0x7F)
+}
+
 // Writes for each byte of src its entry in the table.
 fn translate(src: &[u8], entries: &[u8; 256], out: &mut [u8])
-    requires whole { length entries.now ≡ 256 }
-    requires room { length src.now ≤ length out.old }
+    requires { length src.now ≤ length out.old }
     ensures { out.new ≡ lay (map (entry_in entries.now) src.now) out.old }
 {
-    let mut k = 0;
-    while k < src.len() {
-        out[k] = entries[src[k] as usize];
-        k += 1;
+    // Into out by index: what `out.iter_mut().zip(src)` writes, a proof does not know.
+    for (k, b) in src.iter().enumerate() {
+        out[k] = entries[usize::from(*b)];
     }
 }

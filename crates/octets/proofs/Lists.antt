@@ -138,6 +138,11 @@ pub all_weaker : (p q : ℕ → Bool) → ((x : ℕ) → p x ≡ true → q x �
 all_weaker p q h [] t = refl
 all_weaker p q h (x ∷ s) t = rw (h x (both_left (p x) (all p s) t)) (all_weaker p q h s (both_right (p x) (all p s) t))
 
+-- tests that answer the same at each element answer the same of all
+pub all_same : (p q : ℕ → Bool) (s : List ℕ) → ((i : ℕ) → i < length s → p (get_or s i 0) ≡ q (get_or s i 0)) → all p s ≡ all q s
+all_same p q [] h = refl
+all_same p q (x ∷ s) h = rw (h 0 (omega arith), all_same p q s (λ i l. h (suc i) (omega arith)))
+
 pub all_append : (p : ℕ → Bool) (s t : List ℕ) → all p s ≡ true → all p t ≡ true → all p (s ++ t) ≡ true
 all_append p [] t a b = b
 all_append p (x ∷ s) t a b = rw (both_left (p x) (all p s) a) (all_append p s t (both_right (p x) (all p s) a) b)
