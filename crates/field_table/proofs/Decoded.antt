@@ -61,15 +61,6 @@ pub house_decoded : decoded house_codes ≡ house
 unfolding house_codes house house_rows
 house_decoded = decodes house_codes house_rows refl tt tt tt tt
 
--- the ends of `code_in`
-pub code_here : (rs : List ℕ) (k x : ℕ) → x ≡ get_or rs k 0 → x ≡ code_in rs k
-unfolding code_in
-code_here rs k x e = e
-
-pub code_none : (rs : List ℕ) (k : ℕ) → length rs ≤ k → 0 ≡ code_in rs k
-unfolding code_in
-code_none rs k h = sym (get_or-eq_default rs 0 {n = k} h)
-
 pub decoded_bounded : (rs : List ℕ) → Bounded (decoded rs)
 unfolding decoded
 decoded_bounded rs = record { width_small = λ f. omega arith; most_small = λ f. omega arith }

@@ -1,5 +1,5 @@
 // The field table by number: how many length digits, the length, the class. 01, "Field table".
-#![tactic(auto)]
+#![tactic(auto, unfolding(crate::specs::Codes::code_in, crate::specs::Codes::decoded))]
 
 ghost use Rattle.std.specs.Prelude.{◌≡◌, ◌≤◌};
 ghost use Rattle.field_table.specs.Table.{is_binary};
@@ -7,7 +7,7 @@ ghost use Rattle.field_table.specs.House.{house};
 ghost use Rattle.field_table.specs.Codes.{class_by_code, code_in, decoded, house_codes};
 
 // n, a, an, ans, ns, z, x+n and b.
-#[derive(Clone, Copy)]
+#[derive(Clone, Copy, PartialEq, Eq, Debug)]
 pub enum Class {
     N,
     A,
@@ -32,69 +32,52 @@ pub fn width_in(table: &[u16], number: usize) -> usize
     ensures value { result ≡ (decoded table.now).width number }
     ensures small { result ≤ 3 }
 {
-    code_in(table, number) / 1024 % 4
+    usize::from(code_in(table, number) / 1024 % 4)
 }
 
 // The length of field number where it is fixed, else its greatest length.
 pub fn most_in(table: &[u16], number: usize) -> usize
     ensures { result ≡ (decoded table.now).most number }
 {
-    code_in(table, number) % 1024
+    usize::from(code_in(table, number) % 1024)
 }
 
 // The class of field number; b where the table has no such field.
 pub fn class_in(table: &[u16], number: usize) -> Class
     ensures { result ≡ (decoded table.now).class number }
 {
-    class_by_code(code_in(table, number) / 4096)
+    Class::from(code_in(table, number) / 4096)
 }
 
 // The code of field number; 0 where there is none.
-fn code_in(table: &[u16], number: usize) -> usize
+fn code_in(table: &[u16], number: usize) -> u16
     ensures { result ≡ code_in table.now number }
 {
-    if number < table.len() {
-        return widen(table[number]);
-    }
-    0
-}
-
-// A number of the table as one that can be reckoned with.
-fn widen(code: u16) -> usize
-    ensures { result ≡ code }
-{
-    code as usize
+    table.get(number).copied().unwrap_or(0)
 }
 
 // Whether contents of the class may hold any byte; those of the others are text.
 pub fn is_binary(class: Class) -> bool
     ensures { result ≡ is_binary class }
 {
-    match class {
-        Class::N => false,
-        Class::A => false,
-        Class::An => false,
-        Class::Ans => false,
-        Class::Ns => false,
-        Class::Z => false,
-        Class::Xn => false,
-        Class::B => true,
-    }
+    class == Class::B
 }
 
 // The class that a number stands for.
-fn class_by_code(code: usize) -> Class
-    ensures { result ≡ class_by_code code }
-{
-    match code {
-        1 => Class::N,
-        2 => Class::A,
-        3 => Class::An,
-        4 => Class::Ans,
-        5 => Class::Ns,
-        6 => Class::Z,
-        7 => Class::Xn,
-        _ => Class::B,
+impl From<u16> for Class {
+    ghost from_gives = { λ code class. class ≡ class_by_code code };
+
+    fn from(code: u16) -> Class {
+        match code {
+            1 => Class::N,
+            2 => Class::A,
+            3 => Class::An,
+            4 => Class::Ans,
+            5 => Class::Ns,
+            6 => Class::Z,
+            7 => Class::Xn,
+            _ => Class::B,
+        }
     }
 }
 
