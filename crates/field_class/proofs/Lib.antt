@@ -1,3 +1,2 @@
 pub mod Classes
-pub mod Signs
 pub mod Text

@@ -1,28 +1,12 @@
--- Each arm passes on what it called.
-use Rattle.field_class.proofs.Classes.{conforms_in}
-use borrow.Author.Rules.{rules}
+-- Each byte is tested; x+n, whose contents begin with a sign, was taken out before.
+use Rattle.std.proofs.Common.{◌∙◌, rules, tests}
+use Rattle.std.proofs.lemmas.Iterator.{YieldsList-from_slice}
+use Rattle.std.proofs.lemmas.Iterator.Search.{all_from_yields_List}
+use Rattle.field_class.specs.Classes.{allows}
+use Rattle.field_class.proofs.Classes.{all_tested, conforms_bytes}
 use Rattle.field_class.proofs.is_of_class.Goals as goal
 
-pub returns-in-N : goal.returns-in-N
-returns-in-N c = search (conforms_in, rules)
-
-pub returns-in-A : goal.returns-in-A
-returns-in-A c = search (conforms_in, rules)
-
-pub returns-in-An : goal.returns-in-An
-returns-in-An c = search (conforms_in, rules)
-
-pub returns-in-Ans : goal.returns-in-Ans
-returns-in-Ans c = search (conforms_in, rules)
-
-pub returns-in-Ns : goal.returns-in-Ns
-returns-in-Ns c = search (conforms_in, rules)
-
-pub returns-in-Z : goal.returns-in-Z
-returns-in-Z c = search (conforms_in, rules)
-
-pub returns-in-Xn : goal.returns-in-Xn
-returns-in-Xn c = search (conforms_in, rules)
-
-pub returns-in-B : goal.returns-in-B
-returns-in-B c = search (conforms_in, rules)
+pub returns-in_default : goal.returns-in_default
+returns-in_default c =
+    all_from_yields_List (allows c.args.class) _ _ _ c.all.ensures.ran (YieldsList-from_slice c.args.content.now cc) (λ x b q k. search (rules, tests))
+    ∙ all_tested (allows c.args.class) c.args.content.now ∙ conforms_bytes c.args.class c.args.content.now c.in_default.not-Xn
