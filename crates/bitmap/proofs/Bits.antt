@@ -6,6 +6,7 @@ use mathlib.Core.List.{List, [], ◌∷◌}
 use native.Mathlib.Omega.{arith}
 use native.Mathlib.Nat.{zero-div}
 use lib.Dec.{T, eqb, ltb, eqb→eq, ltb→lt}
+use Rattle.std.specs.Prelude.{bit_or}
 use lib.ListN.{length, get_or, get_or-eq_default}
 use borrow.Author.Tests.{eq-eqb, ne_eqb}
 use Rattle.octets.specs.Lists.{either, between, all}
@@ -54,14 +55,22 @@ bit_room x i h k n = go (bit_in x i) (ne_eqb (x / 2 ^ (7 - i) % 2) 1 n) (at (roo
     go true e t = absurd (false_true (sym e))
     go false e t = ltb→lt (x + 2 ^ (7 - i)) 256 t
 
--- The ends of `set_bit`.
-pub bit_there : (x i : ℕ) → x / 2 ^ (7 - i) % 2 ≡ 1 → x ≡ with_bit x i
+-- A bit is set by `|`. Computed at every byte and bit.
+or_test : ℕ → ℕ → Bool
 unfolding with_bit
-bit_there x i e = rw (eq-eqb (x / 2 ^ (7 - i) % 2) 1 e)
+or_test x i = eqb (bit_or x (128 / 2 ^ i)) (with_bit x i)
 
-pub bit_added : (x i v : ℕ) → (x / 2 ^ (7 - i) % 2 ≡ 1 → ⊥) → v ≡ 2 ^ (7 - i) → x + v ≡ with_bit x i
-unfolding with_bit
-bit_added x i v h e = rw (ne_eqb (x / 2 ^ (7 - i) % 2) 1 h, e)
+or_tests : ℕ → Bool
+unfolding or_test
+or_tests x = below (or_test x) 8
+
+or_tested : T (below or_tests 256)
+unfolding or_tests or_test with_bit
+or_tested = tt
+
+pub or_bit : (x i : ℕ) → x < 256 → i < 8 → bit_or x (128 / 2 ^ i) ≡ with_bit x i
+unfolding or_tests or_test
+or_bit x i h k = eqb→eq (bit_or x (128 / 2 ^ i)) (with_bit x i) (at (or_test x) 8 (at or_tests 256 or_tested x h) i k)
 
 -- A byte is its eight bits.
 byte_test : ℕ → Bool

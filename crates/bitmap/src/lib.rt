@@ -35,24 +35,22 @@ impl FieldSet {
     }
 
     // The set with one field more. A number that is no field changes nothing: bits 1 and 65 are never set here.
+    #[tactic(auto, using(crate::proofs::Maps::field_low, crate::proofs::Maps::field_high, crate::proofs::Bits::or_bit), unfolding(crate::specs::Bitmaps::with_field))]
     pub fn with(self, field: usize) -> FieldSet
         ensures { result.bits ≡ with_field self.bits field }
     {
-        if !is_field(field) {
-            return self;
-        }
-        let k = field - 1;
-        let at = k / 8;
         let mut bits = self.bits;
-        bits[at] = set_bit(bits[at], k % 8);
+        if is_field(field) {
+            let k = field - 1;
+            bits[k / 8] |= 128 >> (k % 8);
+        }
         FieldSet { bits }
     }
 
     pub fn has(self, field: usize) -> bool
         ensures { result ≡ has_field self.bits field }
     {
-        let bits = self.bits;
-        has_field(&bits, field)
+        has_field(&self.bits, field)
     }
 
     // The set as 24 bytes.
@@ -66,20 +64,15 @@ impl FieldSet {
 impl Bitmaps {
     // The bitmaps for a set of fields: bits 1 and 65 follow from the count. A count over 3 is taken for 3, and a count of 0
     // makes no bitmap. A field beyond the last bitmap has no bit there: writers refuse it before they come here.
+    #[tactic(auto, using(crate::proofs::ByBits::maps_made))]
     pub fn of(count: usize, fields: FieldSet) -> Bitmaps
         ensures count { result.count ≡ min count 3 }
         ensures bytes { result.bytes ≡ maps_for (min count 3) fields.bits }
     {
-        let bits = fields.bits;
-        if 3 < count {
-            return Bitmaps {
-                count: 3,
-                bytes: map_bytes(3, bits),
-            };
-        }
+        let count = count.min(3);
         Bitmaps {
             count,
-            bytes: map_bytes(count, bits),
+            bytes: map_bytes(count, fields.bits),
         }
     }
 
@@ -92,26 +85,19 @@ impl Bitmaps {
 }
 
 // Whether field is the number of a field: 2 to 192 without 65.
+#[tactic(auto, unfolding(octets::specs::Lists::between, crate::specs::Bitmaps::is_field))]
 pub fn is_field(field: usize) -> bool
     ensures { result ≡ is_field field }
 {
-    if field < 2 {
-        return false;
-    }
-    if 192 < field {
-        return false;
-    }
-    field != 65
+    matches!(field, 2..=192) && field != 65
 }
 
 // Whether field is present in bitmaps, or in a set of fields.
+#[tactic(auto, unfolding(crate::specs::Bitmaps::has_field))]
 pub fn has_field(bits: &[u8], field: usize) -> bool
     ensures { result ≡ has_field bits.now field }
 {
-    if !is_field(field) {
-        return false;
-    }
-    is_set(bits, field)
+    is_field(field) && is_set(bits, field)
 }
 
 // The numbers of the fields present, rising: a byte at a time, and one without a bit is passed over at once.
@@ -139,23 +125,18 @@ pub fn list_fields(bits: &[u8]) -> FieldList
 fn end_of(bytes: usize) -> usize
     ensures { result ≡ min bytes 24 }
 {
-    if 24 < bytes {
-        return 24;
-    }
-    bytes
+    bytes.min(24)
 }
 
 // Byte `at` of bitmaps, b, without bits 1 and 65, which are no fields.
+#[tactic(auto, unfolding(crate::specs::Bitmaps::unchained))]
 fn unchain(at: usize, b: u8) -> u8
     ensures { result ≡ unchained at b }
 {
-    if at == 0 {
-        return chained(false, b);
+    match at {
+        0 | 8 => chained(false, b),
+        _ => b,
     }
-    if at == 8 {
-        return chained(false, b);
-    }
-    b
 }
 
 // Writes the numbers of the bits set in b, whose high bit is number first, to the front of numbers, and answers how many.
@@ -177,30 +158,15 @@ fn list_bits(b: u8, first: usize, numbers: &mut [u8]) -> usize
 }
 
 // Bit number of the bytes, from the high bit of the first, from 1. There is no bit 0 and none past the end.
+#[tactic(auto, unfolding(crate::specs::Bits::bit_of))]
 pub fn is_set(bytes: &[u8], number: usize) -> bool
     ensures { result ≡ bit_of bytes.now number }
 {
-    if number == 0 {
+    let Some(k) = number.checked_sub(1) else {
         return false;
-    }
-    let k = number - 1;
-    let at = k / 8;
-    if bytes.len() <= at {
-        return false;
-    }
+    };
     let high = 7 - k % 8;
-    (bytes[at] >> high) % 2 == 1
-}
-
-// b with its bit i, from the high one, set.
-fn set_bit(b: u8, i: usize) -> u8
-    requires { i < 8 }
-    ensures { result ≡ with_bit b i }
-{
-    if (b >> (7 - i)) % 2 == 1 {
-        return b;
-    }
-    b + (1 << (7 - i))
+    bytes.get(k / 8).is_some_and(|b| (b >> high) % 2 == 1)
 }
 
 fn map_bytes(count: usize, bits: [u8; 24]) -> [u8; 24]
@@ -219,29 +185,23 @@ fn map_bytes(count: usize, bits: [u8; 24]) -> [u8; 24]
 }
 
 // Byte i of the bitmaps, for fields whose bits there are b.
+#[tactic(auto, unfolding(crate::specs::Bitmaps::map_byte))]
 fn map_byte(count: usize, i: usize, b: u8) -> u8
     requires { count ≤ 3 }
     ensures made { result ≡ map_byte count i b }
     ensures byte { result < 256 }
 {
-    if 8 * count <= i {
-        return 0;
+    match i {
+        _ if 8 * count <= i => 0,
+        0 => chained(2 <= count, b),
+        8 => chained(3 <= count, b),
+        _ => b,
     }
-    if i == 0 {
-        return chained(2 <= count, b);
-    }
-    if i == 8 {
-        return chained(3 <= count, b);
-    }
-    b
 }
 
 // b with its first bit as `on` says.
 fn chained(on: bool, b: u8) -> u8
     ensures { result ≡ chain on b }
 {
-    if on {
-        return 128 + b % 128;
-    }
-    b % 128
+    if on { 128 + b % 128 } else { b % 128 }
 }
