@@ -15,7 +15,7 @@ use Rattle.octets.proofs.Lists.{between_high}
 use Rattle.octets.proofs.Tables.{below, at}
 use Rattle.bitmap.specs.Bits.{bit_in, bit_of, byte_of, bytes_of, with_bit}
 
--- The ends of `is_set`.
+-- There is no bit 0, and none past the end.
 pub bit_zero : (s : List ℕ) (f : ℕ) → f ≡ 0 → false ≡ bit_of s f
 unfolding bit_of
 bit_zero s f e = rw (eq-eqb f 0 e)
@@ -24,18 +24,7 @@ pub bit_past : (s : List ℕ) (f : ℕ) → (f ≡ 0 → ⊥) → length s ≤ (
 unfolding bit_of
 bit_past s f h k = rw (ne_eqb f 0 h, get_or-eq_default s 0 k, zero-div (2 ^ (7 - (f - 1) % 8)))
 
-pub bit_is : (s : List ℕ) (f : ℕ) → (f ≡ 0 → ⊥) → eqb (get_or s ((f - 1) / 8) 0 / 2 ^ (7 - (f - 1) % 8) % 2) 1 ≡ bit_of s f
-unfolding bit_of
-bit_is s f h = rw (ne_eqb f 0 h)
-
--- What each bit is worth fits in a byte, and one that is not set fits in what is left.
-power_test : ℕ → Bool
-power_test i = eqb (1 * 2 ^ (7 - i) % 256) (2 ^ (7 - i))
-
-pub power_of : (i : ℕ) → i < 8 → 1 * 2 ^ (7 - i) % 256 ≡ 2 ^ (7 - i)
-unfolding power_test
-power_of i h = eqb→eq (1 * 2 ^ (7 - i) % 256) (2 ^ (7 - i)) (at power_test 8 tt i h)
-
+-- What a bit that is not set is worth fits in what is left of a byte.
 room_test : ℕ → ℕ → Bool
 room_test x i = either (bit_in x i) (ltb (x + 2 ^ (7 - i)) 256)
 

@@ -6,7 +6,8 @@ use mathlib.Core.List.{List, [], ◌∷◌, ◌++◌, map}
 use native.Mathlib.Omega.{arith}
 use native.Mathlib.Nat.{add-zero}
 use lib.Count.{count_leading_zeros}
-use lib.Dec.{T, eqb, ltb, leb, eqb→eq, ltb→lt, leb→le}
+use Rattle.std.specs.Prelude.{bit_xor}
+use lib.Dec.{T, eqb, ltb, eqb→eq, ltb→lt}
 use lib.ListN.{length, get_or, set, replicate, length-map, length-append, length-drop}
 use borrow.Rule.Slice.PartMut.{mid_of, put_mid}
 use borrow.Author.Tests.{eq-eqb, ne_eqb}
@@ -16,26 +17,17 @@ use Rattle.octets.proofs.Tables.{below, at, passed_left, passed_right}
 use Rattle.octets.proofs.Lists.{placed_done}
 use Rattle.octets.proofs.Parts.{part_rest, Written, written_none, written_room, written_byte, written_more, written_end}
 use Rattle.bitmap.specs.Bits.{bit_in, bit_of}
-use Rattle.bitmap.specs.Bitmaps.{is_field, has_field, fields_from, fields_of, chain, unchained, bit_numbers}
+use Rattle.bitmap.specs.Bitmaps.{is_field, has_field, fields_from, fields_of, unchained, bit_numbers}
 use Rattle.bitmap.proofs.Fields.{fields_most, fields_split, fields_past}
 use Rattle.bitmap.proofs.Maps.{field_not_65}
 use Rattle.bitmap.proofs.ByBits.{bit_on, bit_off}
 
 -- The first set bit of a byte, and the byte without it, as the code has them: its other set bits are those of the byte. Computed at each byte.
 abbrev pub first : ℕ → ℕ
-first x = count_leading_zeros 64 x - 56
-
-abbrev worth : ℕ → ℕ
-worth x = 1 * 2 ^ (7 - first x) % 18446744073709551616
+first x = count_leading_zeros 8 x
 
 abbrev pub others : ℕ → ℕ
-others x = x - worth x
-
-pub record Bit (x : ℕ) : Type 0 where
-  pub low : 56 ≤ count_leading_zeros 64 x
-  pub high : count_leading_zeros 64 x ≤ 63
-  pub some_worth : 0 < worth x
-  pub within : worth x ≤ x
+others x = bit_xor x (128 / 2 ^ first x)
 
 same_list : List ℕ → List ℕ → Bool
 same_list [] [] = true
@@ -59,15 +51,13 @@ module _ (x : ℕ) (small : x < 256) (some : x ≡ 0 → ⊥) where
   checked : (p : ℕ → Bool) → T (below (λ y. either (eqb y 0) (p y)) 256) → T (p x)
   checked p t = or_else (eqb x 0) (p x) (ne_eqb x 0 some) (at (λ (y : ℕ). either (eqb y 0) (p y)) 256 t x small)
 
-  pub first_bit : Bit x
+  pub first_below : first x < 8
   unfolding count_leading_zeros
-  first_bit =
-      record {
-        low = leb→le 56 (count_leading_zeros 64 x) (checked (λ y. leb 56 (count_leading_zeros 64 y)) tt);
-        high = leb→le (count_leading_zeros 64 x) 63 (checked (λ y. leb (count_leading_zeros 64 y) 63) tt);
-        some_worth = ltb→lt 0 (worth x) (checked (λ y. ltb 0 (worth y)) tt);
-        within = leb→le (worth x) x (checked (λ y. leb (worth y) y) tt);
-      }
+  first_below = ltb→lt (first x) 8 (checked (λ y. ltb (first y) 8) tt)
+
+  pub others_below : others x < x
+  unfolding count_leading_zeros
+  others_below = ltb→lt (others x) x (checked (λ y. ltb (others y) y) tt)
 
   numbers_more : (f : ℕ) → bit_numbers x f ≡ (f + first x) ∷ bit_numbers (others x) f
   unfolding bit_numbers fields_from count_leading_zeros same_list
@@ -89,8 +79,8 @@ pub record Listing (b f : ℕ) (d o : List ℕ) (rest n : ℕ) : Type 0 where
   pub small : rest < 256
   pub written : Written (bit_numbers b f) d o (bit_numbers rest f) n
 
-pub listing_none : (b f w : ℕ) (d : List ℕ) → w < 256 → w ≡ b → Listing b f d d w 0
-listing_none b f w d h e = record { small = h; written = rw e (written_none (bit_numbers b f) d) }
+pub listing_none : (b f : ℕ) (d : List ℕ) → b < 256 → Listing b f d d b 0
+listing_none b f d h = record { small = h; written = written_none (bit_numbers b f) d }
 
 module _ (b f : ℕ) (d o : List ℕ) (rest n : ℕ) (c : Listing b f d o rest n) where
   pub listing_end : 8 ≤ length d → rest ≡ 0 → (n ≡ length (bit_numbers b f)) × (o ≡ placed (bit_numbers b f) d)
@@ -110,7 +100,7 @@ module _ (b f : ℕ) (d o : List ℕ) (rest n : ℕ) (c : Listing b f d o rest n
     pub listing_more : Listing b f d (set o n (f + first rest)) (others rest) (n + 1)
     listing_more =
         record {
-          small = omega (arith, c.small);
+          small = omega (arith, c.small, others_below rest c.small some);
           written = written_byte (bit_numbers b f) d o (bit_numbers (others rest) f) n (f + first rest) (rw (numbers_more rest c.small some f) at c.written) listing_fits;
         }
 
@@ -169,15 +159,6 @@ module _ (s : List ℕ) where
       let f : 8 * i + 1 + 8 ≡ 8 * (i + 1) + 1 = omega arith in
       rw n (fields_split (has_field s) 8 (192 - 8 * (i + 1)) (8 * i + 1) ∙ rw (f, fields_byte i h, e))
 
-  left_over : (i : ℕ) → i < 24 → get_or s i 0 ≡ 0 → left i ≡ left (i + 1)
-  unfolding unchained
-  left_over i h z =
-      left_more i 0 h
-      (by_eq i 0
-      (λ e. rw (z, eq-eqb i 0 e))
-      (λ n. by_eq i 8 (λ e. rw (z, ne_eqb i 0 n, eq-eqb i 8 e)) (λ m. rw (z, ne_eqb i 0 n, ne_eqb i 8 m))))
-      ∙ rw (numbers_none 0 (8 * i + 1) refl)
-
   left_end : (i : ℕ) → min (length s) 24 ≤ i → left i ≡ []
   unfolding fields_from
   left_end i h =
@@ -214,9 +195,6 @@ module _ (s o : List ℕ) (i n : ℕ) (c : Filling s o i n) where
   filling_end h = written_end (fields_of s 3) (replicate 192 0) o (left s i) n c.written (left_end s i h)
 
   module _ (more : i < min (length s) 24) where
-    pub filling_over : get_or s i 0 ≡ 0 → Filling s o (i + 1) n
-    filling_over z = record { early = omega arith; written = rw (left_over s i (omega arith) z) at c.written }
-
     pub filling_lent : 8 ≤ length (mid_of n (192 - n) o)
     filling_lent =
         let z : 192 - n ≡ length o - n = omega (arith, filling_size) in
@@ -235,18 +213,3 @@ module _ (s o : List ℕ) (i n : ℕ) (c : Filling s o i n) where
               rw z (written_more (fields_of s 3) (replicate 192 0) o (left s i) (bit_numbers x (8 * i + 1)) (left s (i + 1)) f n k
               c.written (left_more s i x (omega arith) hx) (sym hk) (omega (arith, filling_size, filling_sum x k hk)) (rw z at hf));
         }
-
--- the ends of `unchain`
-module _ (i x : ℕ) where
-  pub unchained_first : (v : ℕ) → i ≡ 0 → v ≡ chain false x → v ≡ unchained i x
-  unfolding unchained
-  unchained_first v z e = rw (eq-eqb i 0 z) e
-
-  module _ (n : i ≡ 0 → ⊥) where
-    pub unchained_second : (v : ℕ) → i ≡ 8 → v ≡ chain false x → v ≡ unchained i x
-    unfolding unchained
-    unchained_second v z e = rw (ne_eqb i 0 n, eq-eqb i 8 z) e
-
-    pub unchained_other : (i ≡ 8 → ⊥) → x ≡ unchained i x
-    unfolding unchained
-    unchained_other m = rw (ne_eqb i 0 n, ne_eqb i 8 m)

@@ -1,18 +1,18 @@
--- The ends of the bitmap routines, with the facts as the code has them. Assumes nothing.
-use Prim.Native.Nat.{ℕ, zero, suc, ◌+◌, ◌-◌, ◌*◌, ◌/◌, ◌%◌, ◌≤◌, ◌<◌}
+-- Fields by their numbers, how many bitmaps there are, and the bytes that are made of them. Assumes nothing.
+use Prim.Native.Nat.{ℕ, zero, suc, ◌+◌, ◌*◌, ◌≤◌, ◌<◌}
 use mathlib.Core.Path.{◌≡◌, refl, sym, ap, ◌∙◌}
-use mathlib.Core.Bool.{Bool, true, false, not}
+use mathlib.Core.Bool.{true, false, not}
 use mathlib.Core.List.{List}
 use native.Mathlib.Omega.{arith}
 use native.Mathlib.Nat.{zero-add}
 use lib.Dec.{eqb, leb}
-use lib.ListN.{length, get_or, set}
-use borrow.Author.Tests.{le-leb, lt-leb, eq-eqb, ne_eqb, not-true, not-false}
+use lib.ListN.{length, get_or}
+use borrow.Author.Tests.{le-leb, lt-leb, eq-eqb, ne_eqb}
 use Rattle.octets.specs.Lists.{between}
-use Rattle.octets.proofs.Cases.{by_bool, both_left, both_fails, both_goes}
+use Rattle.octets.proofs.Cases.{by_bool, both_left}
 use Rattle.octets.proofs.Lists.{is_between, below_low, above_high, between_low, between_high}
-use Rattle.bitmap.specs.Bits.{bit_of, with_bit}
-use Rattle.bitmap.specs.Bitmaps.{is_field, has_field, count_of, with_field, chain, map_byte, maps_from}
+use Rattle.bitmap.specs.Bits.{bit_of}
+use Rattle.bitmap.specs.Bitmaps.{is_field, count_of, chain, map_byte, maps_from}
 
 -- is_field as facts
 pub low_no_field : (f : ℕ) → f < 2 → false ≡ is_field f
@@ -35,15 +35,6 @@ pub field_high : (f : ℕ) → is_field f ≡ true → f ≤ 192
 unfolding is_field
 field_high f t = between_high 2 192 f (both_left (between 2 192 f) (not (eqb f 65)) t)
 
--- the ends of `has_field`
-pub no_field : (flag : Bool) (s : List ℕ) (f : ℕ) → flag ≡ is_field f → not flag ≡ true → false ≡ has_field s f
-unfolding has_field
-no_field flag s f e t = both_fails flag (is_field f) (bit_of s f) e t
-
-pub field_bit : (flag r : Bool) (s : List ℕ) (f : ℕ) → flag ≡ is_field f → not flag ≡ false → r ≡ bit_of s f → r ≡ has_field s f
-unfolding has_field
-field_bit flag r s f e t h = both_goes flag (is_field f) (bit_of s f) r e t h
-
 -- how many bitmaps there are
 pub count_most : (s : List ℕ) → count_of s ≤ 3
 unfolding count_of
@@ -58,16 +49,6 @@ count_least s =
     by_bool (bit_of s 1)
     (λ a. by_bool (bit_of s 65) (λ b. rw (a, b) (omega arith)) (λ b. rw (a, b) (omega arith)))
     (λ a. rw a (omega arith))
-
--- the ends of `with`
-pub field_left : (flag : Bool) (s : List ℕ) (f : ℕ) → flag ≡ is_field f → not flag ≡ true → s ≡ with_field s f
-unfolding with_field
-field_left flag s f e t = rw (← e, not-true flag t)
-
-pub field_put : (flag : Bool) (s : List ℕ) (f v : ℕ) → flag ≡ is_field f → not flag ≡ false → v ≡ with_bit (get_or s ((f - 1) / 8) 0) ((f - 1) % 8)
-    → set s ((f - 1) / 8) v ≡ with_field s f
-unfolding with_field
-field_put flag s f v e t h = rw (← e, not-false flag t, h)
 
 -- the bytes of the bitmaps, one by one
 maps_from_length : (m : ℕ) (s : List ℕ) (k i : ℕ) → length (maps_from m s k i) ≡ k
@@ -89,7 +70,7 @@ maps_length m s = maps_from_length m s 24 0
 pub maps_at : (m : ℕ) (s : List ℕ) (i v : ℕ) → i < 24 → v ≡ map_byte m i (get_or s i 0) → v ≡ get_or (maps_from m s 24 0) i 0
 maps_at m s i v h e = e ∙ sym (maps_from_at m s 24 0 i h ∙ ap (λ (n : ℕ). map_byte m n (get_or s n 0)) (zero-add i))
 
--- the ends of `map_byte`
+-- `map_byte` by cases
 module _ (m i x : ℕ) where
   pub byte_beyond : 8 * m ≤ i → 0 ≡ map_byte m i x
   unfolding map_byte

@@ -1,9 +1,9 @@
 // Bitmaps: which fields a message has. 01, "The message".
 #![tactic(auto)]
 
-ghost use Rattle.std.specs.Prelude.{◌≡◌, ◌-◌, ◌<◌, ◌≤◌, min, true, length, replicate};
+ghost use Rattle.std.specs.Prelude.{◌≡◌, ◌*◌, ◌<◌, ◌≤◌, min, true, length, replicate};
 ghost use Rattle.octets.specs.Lists.{all, between, lay, placed};
-ghost use Rattle.bitmap.specs.Bits.{bit_of, with_bit};
+ghost use Rattle.bitmap.specs.Bits.{bit_of};
 ghost use Rattle.bitmap.specs.Bitmaps.{is_field, has_field, fields_of, unchained, bit_numbers, no_fields, with_field, chain, map_byte, maps_from, maps_for};
 
 // A set of fields, as 24 bytes of bits placed as in the bitmaps.
@@ -100,32 +100,17 @@ pub fn has_field(bits: &[u8], field: usize) -> bool
     is_field(field) && is_set(bits, field)
 }
 
-// The numbers of the fields present, rising: a byte at a time, and one without a bit is passed over at once.
+// The numbers of the fields present, rising, a byte at a time. They stop with byte 24, since fields stop at 192.
 pub fn list_fields(bits: &[u8]) -> FieldList
     ensures count { result.count ≡ length (fields_of bits.now 3) }
     ensures numbers { result.numbers ≡ lay (fields_of bits.now 3) (replicate 192 0) }
 {
-    let end = end_of(bits.len());
     let mut numbers = [0u8; 192];
-    let mut n: usize = 0;
-    let mut at: usize = 0;
-    while at < end {
-        let b = bits[at];
-        if b == 0 {
-            at += 1;
-        } else {
-            n += list_bits(unchain(at, b), 8 * at + 1, &mut numbers[n..]);
-            at += 1;
-        }
+    let mut count = 0;
+    for at in 0..bits.len().min(24) {
+        count += list_bits(unchain(at, bits[at]), 8 * at + 1, &mut numbers[count..]);
     }
-    FieldList { count: n, numbers }
-}
-
-// Where the bytes with fields end: with byte 24, since fields stop at 192.
-fn end_of(bytes: usize) -> usize
-    ensures { result ≡ min bytes 24 }
-{
-    bytes.min(24)
+    FieldList { count, numbers }
 }
 
 // Byte `at` of bitmaps, b, without bits 1 and 65, which are no fields.
@@ -140,19 +125,20 @@ fn unchain(at: usize, b: u8) -> u8
 }
 
 // Writes the numbers of the bits set in b, whose high bit is number first, to the front of numbers, and answers how many.
+#[tactic(auto, using(crate::proofs::Listed::first_below, crate::proofs::Listed::others_below, crate::proofs::Listed::listing_none, crate::proofs::Listed::listing_fits))]
 fn list_bits(b: u8, first: usize, numbers: &mut [u8]) -> usize
     requires first_bound { first ≤ 248 }
     requires room { 8 ≤ length numbers.old }
     ensures count { result ≡ length (bit_numbers b first) }
     ensures writes { numbers.new ≡ placed (bit_numbers b first) numbers.old }
 {
-    let mut rest = octets::wide(b);
-    let mut n: usize = 0;
+    let mut rest = b;
+    let mut n = 0;
     while rest != 0 {
-        let i = (usize::leading_zeros(rest) as usize) - 56;
+        let i = rest.leading_zeros() as usize;
         numbers[n] = (first + i) as u8;
         n += 1;
-        rest -= 1 << (7 - i);
+        rest ^= 128 >> i;
     }
     n
 }
@@ -174,12 +160,9 @@ fn map_bytes(count: usize, bits: [u8; 24]) -> [u8; 24]
     ensures made { result ≡ maps_from count bits 24 0 }
     ensures bytes { all (between 0 255) result ≡ true }
 {
-    let end = 8 * count;
     let mut bytes = [0u8; 24];
-    let mut i: usize = 0;
-    while i < end {
+    for i in 0..8 * count {
         bytes[i] = map_byte(count, i, bits[i]);
-        i += 1;
     }
     bytes
 }
@@ -187,12 +170,10 @@ fn map_bytes(count: usize, bits: [u8; 24]) -> [u8; 24]
 // Byte i of the bitmaps, for fields whose bits there are b.
 #[tactic(auto, unfolding(crate::specs::Bitmaps::map_byte))]
 fn map_byte(count: usize, i: usize, b: u8) -> u8
-    requires { count ≤ 3 }
-    ensures made { result ≡ map_byte count i b }
-    ensures byte { result < 256 }
+    requires { i < 8 * count }
+    ensures { result ≡ map_byte count i b }
 {
     match i {
-        _ if 8 * count <= i => 0,
         0 => chained(2 <= count, b),
         8 => chained(3 <= count, b),
         _ => b,
