@@ -1,10 +1,12 @@
 // Bitmaps: which fields a message has. 01, "The message".
 #![tactic(auto)]
 
-ghost use Rattle.std.specs.Prelude.{◌≡◌, ◌*◌, ◌<◌, ◌≤◌, min, true, length, replicate};
-ghost use Rattle.octets.specs.Lists.{all, between, lay, placed};
+ghost use Rattle.std.specs.Prelude.{◌≡◌, ℕ, ◌*◌, ◌<◌, ◌≤◌, min, true, List, length, take};
+ghost use Rattle.octets.specs.Lists.{all, between, placed};
 ghost use Rattle.bitmap.specs.Bits.{bit_of};
 ghost use Rattle.bitmap.specs.Bitmaps.{is_field, has_field, fields_of, unchained, bit_numbers, no_fields, with_field, chain, map_byte, maps_from, maps_for};
+
+use std::marker::Model;
 
 // A set of fields, as 24 bytes of bits placed as in the bitmaps.
 #[derive(Clone, Copy)]
@@ -12,11 +14,27 @@ pub struct FieldSet {
     bits: [u8; 24],
 }
 
-// Fields as a list: how many there are, and their numbers at the front of 192; the others are zero.
-#[derive(Clone, Copy)]
+// Fields as a list: their numbers, at the front of 192. It sees its numbers alone.
+#[derive(Drop)]
 pub struct FieldList {
-    pub count: usize,
-    pub numbers: [u8; 192],
+    count: usize,
+    numbers: [u8; 192],
+}
+
+impl Model for FieldList {
+    ghost Value = { List ℕ };
+
+    ghost view = { λ l. take l.count l.numbers };
+
+    ghost invariant = { λ l. l.count ≤ 192 };
+}
+
+impl FieldList {
+    pub fn as_slice(&self) -> &[u8]
+        ensures { result.now ≡ self.now }
+    {
+        &self.numbers[..self.count]
+    }
 }
 
 // Up to three bitmaps: their count, and their bytes at the front of 24; the others are zero.
@@ -102,8 +120,7 @@ pub fn has_field(bits: &[u8], field: usize) -> bool
 
 // The numbers of the fields present, rising, a byte at a time. They stop with byte 24, since fields stop at 192.
 pub fn list_fields(bits: &[u8]) -> FieldList
-    ensures count { result.count ≡ length (fields_of bits.now 3) }
-    ensures numbers { result.numbers ≡ lay (fields_of bits.now 3) (replicate 192 0) }
+    ensures { result ≡ fields_of bits.now 3 }
 {
     let mut numbers = [0u8; 192];
     let mut count = 0;

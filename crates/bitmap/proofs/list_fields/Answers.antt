@@ -17,4 +17,4 @@ loop-at-preserved c =
     filling_more _ _ _ _ c.loop-at.invariant (omega (arith, c.min-at-end.ensures)) _ _ _ c.unchain.ensures c.list_bits-count.ensures.count c.list_bits-count.ensures.writes
 
 pub returns : goal.returns
-returns c = let r = filling_end _ _ _ _ c.loop-at.invariant (omega (arith, c.min-at-end.ensures)) in record { count = r.0; numbers = r.1 }
+returns c = filling_end _ _ _ _ c.loop-at.invariant (omega (arith, c.min-at-end.ensures))
