@@ -5,11 +5,10 @@ use mathlib.Core.List.{List, [], ◌∷◌, ◌++◌}
 use native.Mathlib.Nat.{mul-suc, mul-le-mul_left}
 use native.Mathlib.Omega.{arith}
 use lib.ListN.{length, take, drop, get_or, length-take, length-drop, drop_of_length-le}
-use lib.Seq.{drop-drop, take-append_seam}
+use lib.Seq.{drop-drop}
 use borrow.Rule.Slice.PartMut.{mid_of, put_mid}
 use Rattle.std.specs.Prelude.{Result, Ok, Err}
 use Rattle.octets.specs.Lists.{lay, placed}
-use Rattle.octets.proofs.Lists.{lay_length}
 use Rattle.octets.proofs.Parts.{to_end, Written, written_none, written_more, written_end}
 use Rattle.refusal.specs.declared.Cause.{Cause}
 use Rattle.field_table.specs.Table.{Table}
@@ -127,16 +126,8 @@ module _ (t : Table) (s fs : List ℕ) (k : ℕ) (is : fs ≡ fields_of (maps_of
   written_few z few e =
       omega (arith, e, ap (λ (es : List Entry). length (field_notes plain_form es)) entries_are, notes_few (dialect t) s k (omega arith) few)
 
-pub list_is : (s : List ℕ) (k n : ℕ) (numbers d : List ℕ) → k ≤ 3 → n ≡ length (fields_of (take (4 + 8 * k - 4) (drop 4 s)) 3)
-    → numbers ≡ lay (fields_of (take (4 + 8 * k - 4) (drop 4 s)) 3) d → take n numbers ≡ fields_of (maps_of 4 s k) k
-unfolding maps_of lay
-list_is s k n numbers d few a b =
-    let e : 4 + 8 * k - 4 ≡ 8 * k = omega arith in
-    let maps = take (4 + 8 * k - 4) (drop 4 s) in
-    rw (a, b, take-append_seam (fields_of maps 3) (drop (length (fields_of maps 3)) d), e)
-    (fields_in_lem (take (8 * k) (drop 4 s)) k few (omega (arith, length-take (8 * k) (drop 4 s))))
-
-pub list_few : (s d numbers : List ℕ) (n : ℕ) → length d ≡ 192 → n ≡ length (fields_of s 3) → numbers ≡ lay (fields_of s 3) d → n ≤ length numbers
-list_few s d numbers n l a b =
-    let f = fields_few s 3 3 (omega arith) (omega arith) in
-    omega (arith, ap length b ∙ lay_length (fields_of s 3) d (omega arith))
+pub list_is : (s : List ℕ) (k : ℕ) (fields : List ℕ) → k ≤ 3 → fields ≡ fields_of (take (4 + 8 * k - 4) (drop 4 s)) 3 → fields ≡ fields_of (maps_of 4 s k) k
+unfolding maps_of
+list_is s k fields few e =
+    let n : 4 + 8 * k - 4 ≡ 8 * k = omega arith in
+    e ∙ rw n (fields_in_lem (take (8 * k) (drop 4 s)) k few (omega (arith, length-take (8 * k) (drop 4 s))))

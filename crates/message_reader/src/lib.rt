@@ -48,8 +48,7 @@ fn read_by(
 {
     let start = 4 + 8 * bitmaps;
     let list = bitmap::list_fields(&message[4..start]);
-    let numbers = list.numbers;
-    read_listed(message, bitmaps, &numbers[..list.count], table, notes)
+    read_listed(message, bitmaps, list.as_slice(), table, notes)
 }
 
 // The same, with the numbers of the fields in hand.

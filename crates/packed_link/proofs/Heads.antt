@@ -8,7 +8,7 @@ use native.Mathlib.Nat.{add-sub_cancel_left}
 use native.Mathlib.Omega.{arith}
 use lib.Dec.{eqb}
 use lib.ListN.{length, take, drop, length-take}
-use lib.Seq.{length-take-le, take-append_seam}
+use lib.Seq.{length-take-le}
 use borrow.Author.Tests.{lt-ltb, le-ltb, eq-eqb, eqb-true}
 use Rattle.std.specs.Prelude.{Result, Ok, Err}
 use Rattle.std.specs.Result.{is_ok}
@@ -115,17 +115,7 @@ module _ (S : Script) (m : ℕ) (s : List ℕ) (k : ℕ) where
     head_mti = (head_found least e).mti
 
 -- the fields that the code has listed are those of the bitmaps
-module _ (s : List ℕ) (a k n : ℕ) (numbers d : List ℕ) (counted : n ≡ length (fields_of (take (a + 8 * k - a) (drop a s)) 3)) (listed : numbers ≡ lay (fields_of (take (a + 8 * k - a) (drop a s)) 3) d) where
-  abbrev maps : List ℕ
-  maps = take (a + 8 * k - a) (drop a s)
-
-  pub list_is : k ≤ 3 → take n numbers ≡ fields_of (maps_of a s k) k
-  unfolding maps_of lay
-  list_is few =
-      rw (counted, listed, take-append_seam (fields_of maps 3) (drop (length (fields_of maps 3)) d), add-sub_cancel_left a (8 * k))
-      (fields_in_lem (take (8 * k) (drop a s)) k few (omega (arith, length-take (8 * k) (drop a s))))
-
-  pub list_few : length d ≡ 192 → n ≤ length numbers
-  list_few l =
-      let f = fields_few maps 3 3 (omega arith) (omega arith) in
-      omega (arith, ap length listed ∙ lay_length (fields_of maps 3) d (omega arith))
+pub list_is : (s : List ℕ) (a k : ℕ) (fields : List ℕ) → k ≤ 3 → fields ≡ fields_of (take (a + 8 * k - a) (drop a s)) 3 → fields ≡ fields_of (maps_of a s k) k
+unfolding maps_of
+list_is s a k fields few e =
+    e ∙ rw (add-sub_cancel_left a (8 * k)) (fields_in_lem (take (8 * k) (drop a s)) k few (omega (arith, length-take (8 * k) (drop a s))))

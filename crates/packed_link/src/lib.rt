@@ -71,9 +71,7 @@ fn translate_fields(
     let start = packed_field::size_of(script, 4);
     let end = start + 8 * bitmaps;
     let list = bitmap::list_fields(&input[start..end]);
-    let count = list.count;
-    let numbers = list.numbers;
-    translate_listed(input, bitmaps, &numbers[..count], script, table, out)
+    translate_listed(input, bitmaps, list.as_slice(), script, table, out)
 }
 
 // The same, with the numbers of the fields in hand: judges them, then writes.

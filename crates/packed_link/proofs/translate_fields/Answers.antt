@@ -1,11 +1,10 @@
 -- The fields of the bitmaps are listed, then judged and written.
 use Prim.Native.Nat.{ℕ}
-use mathlib.Core.Path.{refl, sym, ap, ◌∙◌}
+use mathlib.Core.Path.{ap, ◌∙◌}
 use native.Mathlib.Omega.{arith}
-use lib.Seq.{length-take-le}
 use Rattle.bitmap.specs.Bitmaps.{fields_of}
 use Rattle.bitmap_read.specs.Found.{maps_of}
-use Rattle.packed_link.proofs.Heads.{mti_small, head_few, head_room, list_is, list_few}
+use Rattle.packed_link.proofs.Heads.{mti_small, head_few, head_room, list_is}
 use Rattle.packed_link.proofs.translate_fields.Goals as goal
 
 pub overflow_mul-end : goal.overflow_mul-end
@@ -17,14 +16,8 @@ overflow_add-end c = omega (arith, head_few _ _ _ _ (omega arith) c.requires, mt
 pub slice_bounds-list_fields-end : goal.slice_bounds-list_fields-end
 slice_bounds-list_fields-end c = omega (arith, head_room _ _ _ _ (omega arith) c.requires, c.size_of-start.ensures)
 
-pub slice_bounds-numbers-end : goal.slice_bounds-numbers-end
-slice_bounds-numbers-end c = (list_few c.args.input.now c.size_of-start.result c.args.bitmaps _ _ _ c.list_fields-list.ensures.count c.list_fields-list.ensures.numbers refl)
-
-pub slice_bounds-translate_listed-end : goal.slice_bounds-translate_listed-end
-slice_bounds-translate_listed-end c = sym (length-take-le _ _ (list_few c.args.input.now c.size_of-start.result c.args.bitmaps _ _ _ c.list_fields-list.ensures.count c.list_fields-list.ensures.numbers refl))
-
 pub translate_listed-requires : goal.translate_listed-requires
 translate_listed-requires c = record {
   headed = c.requires;
-  listed = list_is c.args.input.now c.size_of-start.result c.args.bitmaps _ _ _ c.list_fields-list.ensures.count c.list_fields-list.ensures.numbers (head_few _ _ _ _ (omega arith) c.requires) ∙ ap (λ (y : ℕ). fields_of (maps_of y c.args.input.now c.args.bitmaps) c.args.bitmaps) c.size_of-start.ensures;
+  listed = c.as_slice.ensures ∙ list_is _ _ _ _ (head_few _ _ _ _ (omega arith) c.requires) c.list_fields-list.ensures ∙ ap (λ (y : ℕ). fields_of (maps_of y c.args.input.now c.args.bitmaps) c.args.bitmaps) c.size_of-start.ensures;
 }
