@@ -14,7 +14,7 @@ pub struct FieldSet {
     bits: [u8; 24],
 }
 
-// Fields as a list: their numbers, at the front of 192. It sees its numbers alone.
+// Fields as a list: their numbers, at the front of 192 bytes. Contracts see the numbers alone.
 #[derive(Drop)]
 pub struct FieldList {
     count: usize,
