@@ -14,7 +14,7 @@ pub struct FieldSet {
     bits: [u8; 24],
 }
 
-// Fields as a list: their numbers, at the front of 192 bytes. Contracts see the numbers alone.
+// Fields as a list, in fixed memory: their numbers, at the front of 192 bytes. Contracts see the numbers alone.
 #[derive(Drop)]
 pub struct FieldList {
     count: usize,
@@ -37,7 +37,7 @@ impl FieldList {
     }
 }
 
-// Up to three bitmaps: their count, and their bytes at the front of 24; the others are zero.
+// Up to three bitmaps, in fixed memory: their count, and their bytes at the front of 24; the others are zero.
 // They are made from a count and a set of fields: no bit can be set or cleared by itself.
 #[derive(Clone, Copy)]
 pub struct Bitmaps {
@@ -46,6 +46,7 @@ pub struct Bitmaps {
 }
 
 impl FieldSet {
+    // The empty set. Not by Default: the name says which set it is.
     pub fn none() -> FieldSet
         ensures { result.bits ≡ no_fields }
     {
@@ -107,7 +108,7 @@ impl Bitmaps {
 pub fn is_field(field: usize) -> bool
     ensures { result ≡ is_field field }
 {
-    matches!(field, 2..=192) && field != 65
+    (2..=192).contains(&field) && field != 65
 }
 
 // Whether field is present in bitmaps, or in a set of fields.

@@ -12,7 +12,7 @@ pub fn is_of_class(class: Class, content: &[u8]) -> bool
 {
     match class {
         Class::Xn => is_signed(content),
-        _ => content.iter().all(|b| is_allowed(class, *b)),
+        _ => content.iter().all(|&b| is_allowed(class, b)),
     }
 }
 
