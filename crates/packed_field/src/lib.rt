@@ -54,14 +54,7 @@ pub fn size_of(script: Script, digits: usize) -> usize
 pub fn lead_parts(s: &[u8], script: Script) -> usize
     ensures { result ≡ lead (is_part script) s.now }
 {
-    let mut i: usize = 0;
-    while i < s.len() {
-        if !is_part(s[i], script) {
-            return i;
-        }
-        i += 1;
-    }
-    i
+    s.iter().take_while(|b| is_part(**b, script)).count()
 }
 
 #[tactic(auto, unfolding(crate::specs::Scripts::is_part))]
