@@ -1,6 +1,5 @@
 pub mod Allowed
 pub mod Cleaned
-pub mod Faults
 pub mod Padding
 pub mod Worked
 pub mod Writing

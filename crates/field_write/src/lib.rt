@@ -36,17 +36,20 @@ pub fn clean_fault(number: usize, content: &[u8], table: &[u16]) -> Result<(), C
 }
 
 // Whether a content of that length may stand in field number.
+#[tactic(auto, unfolding(crate::specs::Fields::is_allowed_length))]
 pub fn is_allowed_length(number: usize, length: usize, table: &[u16]) -> bool
     ensures { result ≡ is_allowed_length (decoded table.now) number length }
 {
     let most = field_table::most_in(table, number);
     if field_table::width_in(table, number) == 0 {
-        return length == most;
+        length == most
+    } else {
+        length <= most
     }
-    length <= most
 }
 
 // Whether a content of that length is padded when it is written to field number.
+#[tactic(auto, unfolding(crate::specs::Fields::is_short, crate::specs::Fields::missing))]
 pub fn is_short(number: usize, length: usize, table: &[u16]) -> bool
     ensures { result ≡ is_short (decoded table.now) number length }
 {
@@ -54,13 +57,15 @@ pub fn is_short(number: usize, length: usize, table: &[u16]) -> bool
 }
 
 // How many bytes field number takes with a content of that length; 0 for a length that no note can hold.
+#[tactic(auto, unfolding(crate::specs::Fields::written_size))]
 pub fn written_size(number: usize, length: usize, table: &[u16]) -> usize
     ensures { result ≡ cond (leb length longest) (written_size (decoded table.now) number length) 0 }
 {
-    if LONGEST < length {
-        return 0;
+    if length <= LONGEST {
+        field_table::width_in(table, number) + length + missing(number, length, table)
+    } else {
+        0
     }
-    field_table::width_in(table, number) + length + missing(number, length, table)
 }
 
 // Writes field number to the front of out. Where the content is too long for the field, or the field does not fit, out is left as it is.
@@ -74,9 +79,9 @@ pub fn put_field(number: usize, content: &[u8], table: &[u16], out: &mut [u8])
     if width == 0 {
         let pad = missing(number, content.len(), table);
         put_padded(field_table::class_in(table, number), pad, content, out);
-        return;
+    } else {
+        put_counted(width, content, out);
     }
-    put_counted(width, content, out);
 }
 
 // 8 where the content is text and has a byte that is not. 01: "text is any bytes up to 0x7F, binary is any bytes".
@@ -91,33 +96,27 @@ fn text_fault(class: Class, content: &[u8]) -> Result<(), Cause>
 }
 
 // By how many bytes a content of that length is too short for field number; a variable one never is.
+#[tactic(auto, unfolding(crate::specs::Fields::missing))]
 fn missing(number: usize, length: usize, table: &[u16]) -> usize
     ensures { result ≡ missing (decoded table.now) number length }
 {
-    if field_table::width_in(table, number) != 0 {
-        return 0;
+    if field_table::width_in(table, number) == 0 {
+        field_table::most_in(table, number).saturating_sub(length)
+    } else {
+        0
     }
-    let most = field_table::most_in(table, number);
-    if most < length {
-        return 0;
-    }
-    most - length
 }
 
 // Writes the content with pad bytes of padding, on the side and of the kind that its class has.
+#[tactic(auto, unfolding(crate::specs::Fields::padded))]
 fn put_padded(class: Class, pad: usize, content: &[u8], out: &mut [u8])
     ensures { out.new ≡ placed (padded class pad content.now) out.old }
 {
-    if pad == 0 {
-        octets::put(content, out);
-        return;
-    }
-    let b = pad_byte(class);
     if pads_left(class) {
-        put_padding_first(pad, b, content, out);
-        return;
+        put_padding_first(pad, pad_byte(class), content, out);
+    } else {
+        put_padding_last(pad, pad_byte(class), content, out);
     }
-    put_padding_last(pad, b, content, out);
 }
 
 // 01: "`n` with `0` …, `b` with zero bytes …, all others with spaces".
@@ -126,13 +125,8 @@ fn pad_byte(class: Class) -> u8
 {
     match class {
         Class::N => b'0',
-        Class::A => b' ',
-        Class::An => b' ',
-        Class::Ans => b' ',
-        Class::Ns => b' ',
-        Class::Z => b' ',
-        Class::Xn => b' ',
         Class::B => 0,
+        _ => b' ',
     }
 }
 
@@ -140,16 +134,7 @@ fn pad_byte(class: Class) -> u8
 fn pads_left(class: Class) -> bool
     ensures { result ≡ pads_left class }
 {
-    match class {
-        Class::N => true,
-        Class::A => false,
-        Class::An => false,
-        Class::Ans => false,
-        Class::Ns => false,
-        Class::Z => false,
-        Class::Xn => false,
-        Class::B => false,
-    }
+    matches!(class, Class::N)
 }
 
 // Writes pad bytes b, and the content behind them.

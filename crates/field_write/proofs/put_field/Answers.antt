@@ -9,5 +9,5 @@ returns-then-most_in-content c = search (put_long, rules)
 pub returns-then-width-eq0 : goal.returns-then-width-eq0
 returns-then-width-eq0 c = search (put_fixed, rules)
 
-pub returns : goal.returns
-returns c = search (put_variable, rules)
+pub returns-else-width-eq0 : goal.returns-else-width-eq0
+returns-else-width-eq0 c = search (put_variable, rules)
