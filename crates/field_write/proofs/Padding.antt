@@ -1,17 +1,18 @@
 -- Padding, and the bytes of a field: the ends of the functions that write one, with the facts as the code has them. Assumes nothing.
 use Prim.Native.Nat.{ℕ, ◌-◌, ◌≤◌, ◌<◌}
 use mathlib.Core.Path.{◌≡◌, sym, ◌∙◌}
+use mathlib.Core.Bool.{Bool, true, false}
 use mathlib.Core.List.{List, ◌++◌, append-nil}
 use native.Mathlib.Omega.{arith}
 use lib.Dec.{eqb}
-use lib.ListN.{length}
+use lib.ListN.{length, replicate}
 use borrow.Author.Tests.{eq-eqb, ne_eqb, le-leb, lt-leb}
 use Rattle.octets.specs.Lists.{placed}
 use Rattle.octets.specs.Numbers.{digits, decimal}
 use Rattle.octets.proofs.Cases.{by_bool}
 use Rattle.field_table.specs.Table.{Table}
 use Rattle.field_table.specs.declared.Class.{Class}
-use Rattle.field_write.specs.Fields.{missing, pads_left, padded, cleaned, field_bytes, field_into}
+use Rattle.field_write.specs.Fields.{missing, pad_byte, pads_left, padded, cleaned, field_bytes, field_into}
 
 -- what is missing: nothing of a variable content, and of a fixed one what the table has more
 pub missing_variable : (t : Table) (f n : ℕ) → (t.width f ≡ 0 → ⊥) → missing t f n ≡ 0
@@ -29,6 +30,16 @@ missing_most t f n = by_bool (eqb (t.width f) 0) (λ e. rw e (omega arith)) (λ 
 pub padded_none : (c : Class) (s : List ℕ) → padded c 0 s ≡ s
 unfolding padded
 padded_none c s = by_bool (pads_left c) (λ e. rw e) (λ e. rw e (append-nil s))
+
+-- the ends of `put_padded`: e is the output d once the padding and the content are placed
+module _ (c : Class) (k x : ℕ) (s d e : List ℕ) (flag : Bool) (byte : x ≡ pad_byte c) (side : flag ≡ pads_left c) where
+  pub padded_left : flag ≡ true → e ≡ placed (replicate k x ++ s) d → e ≡ placed (padded c k s) d
+  unfolding padded
+  padded_left h p = rw (← side, h, ← byte) p
+
+  pub padded_right : flag ≡ false → e ≡ placed (s ++ replicate k x) d → e ≡ placed (padded c k s) d
+  unfolding padded
+  padded_right h p = rw (← side, h, ← byte) p
 
 -- as the code has it
 none_variable : (t : Table) (f w n : ℕ) → w ≡ t.width f → (w ≡ 0 → ⊥) → 0 ≡ missing t f n

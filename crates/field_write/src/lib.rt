@@ -1,7 +1,7 @@
 // Writing one field: whether its content may be written, what it takes, and its bytes. 01, "Exact and cleaning writers".
 #![tactic(auto)]
 
-ghost use Rattle.std.specs.Prelude.{◌≡◌, cond, ◌++◌, leb, length, replicate};
+ghost use Rattle.std.specs.Prelude.{◌≡◌, ◌+◌, ◌≤◌, ◌↔◌, IsTrue, cond, ◌++◌, leb, length};
 ghost use Rattle.octets.specs.Lists.{placed};
 ghost use Rattle.octets.specs.Numbers.{decimal};
 ghost use Rattle.field_table.specs.Codes.{decoded};
@@ -108,15 +108,37 @@ fn missing(number: usize, length: usize, table: &[u16]) -> usize
 }
 
 // Writes the content with pad bytes of padding, on the side and of the kind that its class has.
-#[tactic(auto, unfolding(crate::specs::Fields::padded))]
 fn put_padded(class: Class, pad: usize, content: &[u8], out: &mut [u8])
     ensures { out.new ≡ placed (padded class pad content.now) out.old }
 {
-    if pads_left(class) {
-        put_padding_first(pad, pad_byte(class), content, out);
-    } else {
-        put_padding_last(pad, pad_byte(class), content, out);
+    if !have_room(out, content.len(), pad) {
+        return;
     }
+    let b = pad_byte(class);
+    if pads_left(class) {
+        octets::fill(out, pad, b);
+        octets::put(content, &mut out[pad..]);
+    } else {
+        octets::put(content, out);
+        octets::fill(&mut out[content.len()..], pad, b);
+    }
+}
+
+// Writes the content's length in width digits, and the content.
+fn put_counted(width: usize, content: &[u8], out: &mut [u8])
+    ensures { out.new ≡ placed (decimal width (length content.now) ++ content.now) out.old }
+{
+    if have_room(out, width, content.len()) {
+        octets::put_decimal(content.len(), width, out);
+        octets::put(content, &mut out[width..]);
+    }
+}
+
+// Whether out has room for n bytes and k more.
+fn have_room(out: &[u8], n: usize, k: usize) -> bool
+    ensures { IsTrue result ↔ (n + k ≤ length out.now) }
+{
+    n.checked_add(k).is_some_and(|size| size <= out.len())
 }
 
 // 01: "`n` with `0` …, `b` with zero bytes …, all others with spaces".
@@ -135,47 +157,4 @@ fn pads_left(class: Class) -> bool
     ensures { result ≡ pads_left class }
 {
     matches!(class, Class::N)
-}
-
-// Writes pad bytes b, and the content behind them.
-fn put_padding_first(pad: usize, b: u8, content: &[u8], out: &mut [u8])
-    ensures { out.new ≡ placed (replicate pad b ++ content.now) out.old }
-{
-    if out.len() < pad {
-        return;
-    }
-    if out.len() - pad < content.len() {
-        return;
-    }
-    octets::fill(out, pad, b);
-    octets::put(content, &mut out[pad..]);
-}
-
-// Writes the content, and pad bytes b behind it.
-fn put_padding_last(pad: usize, b: u8, content: &[u8], out: &mut [u8])
-    ensures { out.new ≡ placed (content.now ++ replicate pad b) out.old }
-{
-    let length = content.len();
-    if out.len() < length {
-        return;
-    }
-    if out.len() - length < pad {
-        return;
-    }
-    octets::put(content, out);
-    octets::fill(&mut out[length..], pad, b);
-}
-
-// Writes the content's length in width digits, and the content.
-fn put_counted(width: usize, content: &[u8], out: &mut [u8])
-    ensures { out.new ≡ placed (decimal width (length content.now) ++ content.now) out.old }
-{
-    if out.len() < width {
-        return;
-    }
-    if out.len() - width < content.len() {
-        return;
-    }
-    octets::put_decimal(content.len(), width, out);
-    octets::put(content, &mut out[width..]);
 }
