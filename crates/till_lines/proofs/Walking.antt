@@ -12,7 +12,7 @@ use Rattle.octets.proofs.Lists.{placed_fits}
 use Rattle.octets.proofs.Parts.{to_end, Written, written_room, written_more, written_end}
 use Rattle.message_language.specs.Language.{Entry, entry}
 use Rattle.message_notes.specs.declared.Note.{Note}
-use Rattle.message_notes.specs.declared.Note.TheVariants.{Field, End, Malformed}
+use Rattle.message_notes.specs.declared.Note.TheVariants.{Field, End}
 use Rattle.message_notes.specs.Dialect.{plain_form, note_size, end_size}
 use Rattle.message_notes.specs.Notes.{field_note, field_notes, end_note, note_at}
 use Rattle.message_notes.proofs.Sizes.{field_long, end_long}
@@ -66,15 +66,9 @@ module _ (u : ℕ) (small : u < 4294967296) (after : List ℕ) where
       let z : ◌≡◌ {A = ℕ} 0 1 = cc in
       absurd (omega arith)
 
-  none_malformed : (left : List Entry) → AllFit left → note_at plain_form (coming left) ≡ Malformed → ⊥
-  none_malformed [] a h =
-      let e = none_noted in
-      let z : ◌≡◌ {A = ℕ} 0 1 = cc in
-      omega arith
-  none_malformed (e ∷ es) a h =
-      let k = first_noted e es a in
-      let z : ◌≡◌ {A = ℕ} 0 1 = cc in
-      omega arith
+  end_noted : (left : List Entry) → AllFit left → ((f p n : ℕ) → note_at plain_form (coming left) ≡ Field f p n → ⊥) → note_at plain_form (coming left) ≡ End u
+  end_noted [] a none = none_noted
+  end_noted (e ∷ es) a none = absurd (none e.number e.offset e.size (first_noted e es a))
 
 -- The notes from `at` on are those of the fields that are left and the end; what is written and their lines make the whole.
 pub record Walked (whole d notes : List ℕ) (u : ℕ) (o : List ℕ) (at w : ℕ) : Type 0 where
@@ -161,6 +155,12 @@ module _ {whole d notes : List ℕ} {u : ℕ} {o : List ℕ} {at w : ℕ} (c : W
           written = line_written (field_line (entry f p n)) (field_lines here.others ++ used_line u) g k lines_here hk hg;
         }
 
+  -- a note that is no field's is the end's
+  pub is_end : (r : Note) → r ≡ note_at plain_form (take (length notes - at) (drop at notes)) → ((f p n : ℕ) → r ≡ Field f p n → ⊥) → note_at plain_form (drop at notes) ≡ End u
+  is_end r e none =
+      ap (note_at plain_form) c.rest
+      ∙ end_noted u c.small c.after c.left c.fit (λ f p n h. none f p n (e ∙ ap (note_at plain_form) (to_end at notes ∙ c.rest) ∙ h))
+
   module _ {v : ℕ} (note : note_at plain_form (drop at notes) ≡ End v) where
     last_line : field_lines c.left ++ used_line u ≡ used_line u ++ []
     unfolding field_lines
@@ -173,6 +173,3 @@ module _ {whole d notes : List ℕ} {u : ℕ} {o : List ℕ} {at w : ℕ} (c : W
     pub walked_end : {g : List ℕ} {k : ℕ} → k ≡ length (used_line u) → g ≡ lay (used_line u) (mid_of w (length o - w) o)
         → (w + k ≡ length whole) × (put_mid w (length o - w) o g ≡ lay whole d)
     walked_end {g} {k} hk hg = written_end whole d _ [] (w + k) (line_written (used_line u) [] g k last_line hk hg) refl
-
-  pub never_malformed : note_at plain_form (drop at notes) ≡ Malformed → ⊥
-  never_malformed note = none_malformed u c.small c.after c.left c.fit (ap (note_at plain_form) (sym c.rest) ∙ note)

@@ -73,25 +73,16 @@ fn put_reading(input: &[u8], used: usize, bitmaps: usize, notes: &[u8], text: &m
     let mut written = put_mti(&input[..4], text);
     written += put_named(b"bitmaps", bitmaps, NEWLINE, &mut text[written..]);
     let mut at = message_notes::HEAD_SIZE;
-    while at < notes.len() {
-        match message_notes::read_note(&notes[at..]) {
-            Note::Field {
-                number,
-                offset,
-                length,
-            } => {
-                written += put_field(number, offset, length, &mut text[written..]);
-                at += message_notes::FIELD_NOTE_SIZE;
-            }
-            Note::End(_) => {
-                return written + put_named(b"used", used, NEWLINE, &mut text[written..]);
-            }
-            Note::Malformed => {
-                return written;
-            }
-        }
+    while let Note::Field {
+        number,
+        offset,
+        length,
+    } = message_notes::read_note(&notes[at..])
+    {
+        written += put_field(number, offset, length, &mut text[written..]);
+        at += message_notes::FIELD_NOTE_SIZE;
     }
-    written
+    written + put_named(b"used", used, NEWLINE, &mut text[written..])
 }
 
 fn put_mti(mti: &[u8], out: &mut [u8]) -> usize
