@@ -106,6 +106,7 @@ fn put_field(number: usize, offset: usize, size: usize, out: &mut [u8]) -> usize
 }
 
 // Writes a line of three words, each with its number.
+// Call by call: a loop over pairs of word and number would have to tell the last, which ends the line.
 fn put_tripled(a: &[u8], x: usize, b: &[u8], y: usize, c: &[u8], z: usize, out: &mut [u8]) -> usize
     requires { length (tripled a.now x b.now y c.now z) ≤ length out.old }
     ensures size { result ≡ length (tripled a.now x b.now y c.now z) }
