@@ -1,12 +1,12 @@
 -- The table is a permutation of the byte values: four tests at each byte, which are computed once. Assumes nothing.
-use Prim.Native.Nat.{ℕ, zero, suc, ◌<◌}
+use Prim.Native.Nat.{ℕ, ◌<◌}
 use mathlib.Core.Path.{◌≡◌, refl, sym, ap, ◌∙◌}
 use mathlib.Core.Bool.{Bool}
-use mathlib.Core.List.{List, [], ◌∷◌, map}
-use native.Mathlib.Nat.{le_of_suc-le-suc, not-suc-le-zero}
+use mathlib.Core.List.{List, map}
 use native.Mathlib.Omega.{arith}
 use lib.Dec.{T, eqb, ltb, eqb→eq, ltb→lt}
 use lib.ListN.{length, get_or}
+use Rattle.std.proofs.lemmas.List.{get_or_default}
 use Rattle.octets.specs.Lists.{lay}
 use Rattle.octets.proofs.Tables.{below, at}
 use Rattle.encoding_ebcdic.specs.Ebcdic.{table, place_in, entry_in, ascii_of, ebcdic_of, Permutes}
@@ -70,15 +70,10 @@ table_permutes =
       each = λ b h. (place_in b table, place_byte b h, entry_place b h);
     }
 
--- what stands at a place of a list is the same, whatever is taken to stand past its end
-get_or_inside : (s : List ℕ) (i d e : ℕ) → i < length s → get_or s i d ≡ get_or s i e
-get_or_inside [] i d e h = absurd (not-suc-le-zero h)
-get_or_inside (x ∷ s) zero d e h = refl
-get_or_inside (x ∷ s) (suc i) d e h = get_or_inside s i d e (le_of_suc-le-suc h)
-
+-- what stands at a byte, whatever is taken to stand past the end
 pub entry_inside : (t : List ℕ) (b : ℕ) → b < length t → get_or t b 0 ≡ entry_in t b
 unfolding entry_in
-entry_inside t b h = get_or_inside t b 0 256 h
+entry_inside t b h = get_or_default t b 0 256 h
 
 entry_means : (b : ℕ) → b < 256 → get_or table b 0 ≡ ascii_of b
 unfolding ascii_of entry_in

@@ -1,7 +1,7 @@
 -- The laws of a writing loop and of a testing loop, each once. Assumes nothing.
 use mathlib.Core.Path.{◌≡◌, refl, sym, ap, ◌∙◌}
 use mathlib.Core.Bool.{Bool, true, false}
-use mathlib.Core.List.{List, [], ◌∷◌, ◌++◌, map, append-nil}
+use mathlib.Core.List.{List, [], ◌∷◌, ◌++◌, append-nil}
 use Prim.Native.Nat.{ℕ, zero, suc, ◌+◌, ◌≤◌, ◌<◌}
 use native.Mathlib.Nat.{le_antisymm, le_of_suc-le-suc, not-suc-le-zero}
 use native.Mathlib.Numerals.{add-one}
@@ -196,8 +196,3 @@ pub tested_lead : {F : Type 0} {g : Mut F (Bor (Bor ℕ) × Unit {0}) Bool} {w :
 tested_lead p s r ran from callee done told =
     count_from_yields_List _ r ran (YieldsList-from_take_while _ p (YieldsList-from_slice s from) callee done told)
     ∙ length-take-le (prefix_len p s) s (rw (lead_is p s) (lead_most p s)) ∙ lead_is p s
-
-pub get_or_map : (f : ℕ → ℕ) (s : List ℕ) (i : ℕ) → i < length s → f (get_or s i 0) ≡ get_or (map f s) i 0
-get_or_map f [] i h = absurd (not-suc-le-zero h)
-get_or_map f (x ∷ s) zero h = refl
-get_or_map f (x ∷ s) (suc i) h = get_or_map f s i (le_of_suc-le-suc h)
