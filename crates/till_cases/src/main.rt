@@ -2,7 +2,6 @@
 #![tactic(auto)]
 
 use std::fs::File;
-use std::os::fd::AsRawFd;
 use std::{env, io};
 
 fn main(rt: HostRuntime) -> io::Result<()> {
@@ -15,9 +14,10 @@ fn main(rt: HostRuntime) -> io::Result<()> {
 // Runs the input of that name. One that cannot be opened is named on standard error.
 fn run(rt: &HostRuntime, name: &str) -> io::Result<()> {
     match File::open(rt, name) {
-        Ok(file) => {
+        Ok(mut file) => {
             println!(rt; "{name}")?;
-            till_report::print_report(file.as_raw_fd());
+            // As in the till program, a read or a write that fails ends nothing.
+            let _ = till_report::print_report(&mut file, &mut io::writer(rt));
             Ok(())
         }
         Err(why) => eprintln!(rt; "{name}: {why}"),

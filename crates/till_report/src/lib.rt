@@ -2,21 +2,49 @@
 // "The till program reads standard input (at most 60,000 bytes)".
 #![tactic(auto)]
 
-// The descriptor of standard output.
-const STDOUT: i32 = 1;
+ghost use Rattle.std.specs.Prelude.{◌+◌, ◌≤◌, ◌<◌, OnOk, IfSome, Some, length, take};
+ghost use Rattle.std.specs.Io.KnownBytes.{Appends, Consumes, IsAtEnd};
+ghost use Rattle.field_table.specs.House.{house};
+ghost use Rattle.message_notes.specs.Dialect.{dialect};
+ghost use Rattle.till_lines.specs.Lines.{input_most, report_of};
 
-// Reads an open file to its end, or one byte further than a report takes, and prints the report of what was read.
-pub fn print_report(file: i32) {
+use std::io;
+use std::io::{Read, Write};
+
+// Reads to the end, or one byte further than a report takes, and prints the report of what was read. A read that fails counts as the
+// end, and its error is answered behind the report.
+pub fn print_report<R: Read, W: Write>(from: &mut R, to: &mut W) -> io::Result<()>
+    ensures reads { OnOk result (IfSome (R.remaining from.old) (λ xs. Consumes (Some xs) (R.remaining from.new) (take (input_most + 1) xs))) }
+    ensures prints { OnOk result (IfSome (R.remaining from.old) (λ xs. Appends (W.contents to.old) (W.contents to.new) (report_of (dialect house) xs))) }
+{
     let mut input = [0u8; till_lines::INPUT_ROOM];
-    let n = io::read_full(file, &mut input);
-    let mut text = [0u8; till_lines::TEXT_ROOM];
-    let length = till_lines::report(&input[..n], &mut text);
-    print_front(&text, length);
+    let (n, end) = read_full(from, &mut input);
+    print_lines(&input[..n], to)?;
+    end
 }
 
-fn print_front(text: &[u8], n: usize) {
-    if text.len() < n {
-        return;
+// Prints the report of an input.
+fn print_lines<W: Write>(input: &[u8], to: &mut W) -> io::Result<()>
+    ensures { OnOk result (Appends (W.contents to.old) (W.contents to.new) (report_of (dialect house) input.now)) }
+{
+    let mut text = [0u8; till_lines::TEXT_ROOM];
+    let length = till_lines::report(input, &mut text);
+    to.write_all(&text[..length])
+}
+
+// Reads until buf is full, the input ends or a read fails, and answers how many bytes it put at the front of buf, and that failure.
+fn read_full<R: Read>(from: &mut R, buf: &mut [u8]) -> (usize, io::Result<()>)
+    ensures within { result.0 ≤ length buf.new }
+    ensures bytes { Consumes (R.remaining from.old) (R.remaining from.new) (take result.0 buf.new) }
+    ensures end { OnOk result.1 (result.0 < length buf.new → IsAtEnd (R.remaining from.new)) }
+{
+    let mut done = 0;
+    while done < buf.len() {
+        match from.read(&mut buf[done..]) {
+            Ok(0) => break,
+            Ok(n) => done += n,
+            Err(why) => return (done, Err(why)),
+        }
     }
-    io::write_all(STDOUT, &text[0..n]);
+    (done, Ok(()))
 }
