@@ -8,226 +8,232 @@ use encoding_length::{Encoding, Measured};
 use message_lookup::Found;
 use message_reader::ReadAnswer;
 use refusal::{Checked, Output};
+use std::alloc::Global;
+use std::fmt;
+use std::io;
+use std::io::{BufReader, BufWriter, Read, Write};
 
-// The descriptors of standard input and output.
-const STDIN: i32 = 0;
-
-const STDOUT: i32 = 1;
+// The most cases that are run.
+const CASES: usize = 100_000;
 
 // The most bytes of an input, and of what is written.
 const ROOM: usize = 1200;
 
-fn main() {
-    let mut left: usize = 100000;
-    while left > 0 {
-        if !run_case() {
-            return;
-        }
-        left -= 1;
-    }
+const NOTES_ROOM: usize = 1531;
+
+// A case: a letter for its kind, an argument and the input.
+#[derive(Drop)]
+struct Case {
+    kind: u8,
+    argument: usize,
+    input: Vec<u8>,
 }
 
-// Runs the case on the next line: a letter for its kind, then in hexadecimal the input's size (two bytes), an argument (one) and the
-// input. Answers whether there was one.
-fn run_case() -> bool {
-    let mut front = [0u8; 9];
-    let n = io::read_full(STDIN, &mut front);
-    if n < 9 {
-        return false;
+// What a line says of a case.
+#[derive(Drop)]
+enum Answer<'a> {
+    Good,
+    Refused,
+    // For a field, or by a number.
+    RefusedFor(usize),
+    Length(usize),
+    Written(Written<'a>),
+    Cleaned(Written<'a>, [u8; 24]),
+    // Every field that one bitmap holds is told.
+    Read {
+        used: usize,
+        bitmaps: usize,
+        message: &'a [u8],
+        notes: &'a [u8],
+    },
+}
+
+// The bytes that were written, where it was not refused.
+#[derive(Drop)]
+struct Written<'a>(Option<&'a [u8]>);
+
+#[derive(Drop)]
+struct Hex<'a>(&'a [u8]);
+
+fn main(rt: HostRuntime) -> io::Result<()> {
+    let mut from = BufReader::new(rt.alloc(), rt.reader())?;
+    let mut to = BufWriter::new(rt.alloc(), io::writer(&rt))?;
+    for _ in 0..CASES {
+        let Some(case) = read_case(rt.alloc(), &mut from)? else {
+            break;
+        };
+        print_answer(&case, &mut to)?;
     }
+    to.flush()
+}
+
+// Reads the next case, if there is one: a letter, then in hexadecimal the input's size (two bytes), an argument (one) and the input.
+fn read_case<R: Read>(alloc: Global, from: &mut R) -> io::Result<Option<Case>> {
+    let front = read_up_to(alloc, from, 9)?;
+    let Some((head, _)) = front.split_first_chunk::<9>() else {
+        return Ok(None);
+    };
     let mut numbers = [0u8; 3];
-    decode_hex(&front[2..8], &mut numbers);
-    let size = octets::wide(numbers[0]) * 256 + octets::wide(numbers[1]);
+    decode_hex(&head[2..8], &mut numbers);
+    let [high, low, argument] = numbers;
+    let size = usize::from(u16::from_be_bytes([high, low]));
     if size > ROOM {
-        return false;
+        return Ok(None);
     }
-    run_input(front[0], octets::wide(numbers[2]), size)
+    // Of a line that is cut, what is missing counts as zeros.
+    let mut line = read_up_to(alloc, from, 2 * size + 1)?;
+    line.resize(2 * size, 0)?;
+    let mut input = vec![in alloc; 0; size]?;
+    decode_hex(&line, &mut input);
+    Ok(Some(Case {
+        kind: head[0],
+        argument: usize::from(argument),
+        input,
+    }))
 }
 
-fn run_input(kind: u8, argument: usize, size: usize) -> bool
-    requires { size < 1201 }
-{
-    let mut text = [0u8; 2401];
-    let line = &mut text[0..2 * size + 1];
-    let n = io::read_full(STDIN, line);
-    let mut input = [0u8; ROOM];
-    let bytes = &mut input[0..size];
-    decode_hex(line, bytes);
-    print_answer(kind, argument, bytes);
-    print(b"\n");
-    n > 2 * size
+// Reads so many bytes, or all that are left where these are fewer.
+fn read_up_to<R: Read>(alloc: Global, from: &mut R, most: usize) -> io::Result<Vec<u8>> {
+    let mut bytes = Vec::new(alloc);
+    from.take(most as u64).read_to_end(&mut bytes)?;
+    Ok(bytes)
 }
 
 fn decode_hex(text: &[u8], out: &mut [u8]) {
-    let mut i: usize = 0;
-    while i < out.len() {
-        if i + i + 1 >= text.len() {
-            return;
-        }
-        out[i] = hex_value(text[i + i]) * 16 + hex_value(text[i + i + 1]);
-        i += 1;
+    for (pair, b) in text.chunks_exact(2).zip(out.iter_mut()) {
+        *b = hex_value(pair[0]) * 16 + hex_value(pair[1]);
     }
 }
 
-// The value of a hexadecimal digit, 0 to 9 or a to f.
+// The value of a hexadecimal digit, 0 to 9 or a to f. Any other byte counts as some digit.
 fn hex_value(b: u8) -> u8
     ensures { result < 16 }
 {
-    if b < 58 {
-        return b % 16;
-    }
-    (b % 16 + 9) % 16
+    if b < 58 { b % 16 } else { (b % 16 + 9) % 16 }
 }
 
-fn print_answer(kind: u8, argument: usize, input: &[u8]) {
-    match kind {
-        b'r' => print_reading(input),
-        b'c' => print_clean(argument, input),
-        b'e' => print_exact(argument, input),
-        b'p' => print_check(validation_pan::check_pan(input)),
-        b'd' => print_check(validation_dates::check_date(input)),
-        b't' => print_check(validation_dates::check_time(input)),
-        b'k' => print_class(validation_field::field_fault(argument, input)),
-        b'f' => print_fault(validation_field::field_fault(argument, input)),
-        b'q' => print_required(argument, input),
-        _ => print_conversion(kind, argument, input),
-    }
-}
-
-fn print_conversion(kind: u8, argument: usize, input: &[u8]) {
+// Prints a line, which is empty where the input is too short for its kind.
+fn print_answer<W: Write>(case: &Case, to: &mut W) -> io::Result<()> {
+    let mut notes = [0u8; NOTES_ROOM];
     let mut out = [0u8; ROOM];
-    match kind {
-        b'b' => print_output(encoding_bcd::encode(input, &mut out), &out),
-        b'u' => print_output(encoding_bcd::decode(input, argument, &mut out), &out),
-        b'x' => print_output(encoding_ebcdic::encode(input, &mut out), &out),
-        b'a' => print_output(encoding_ebcdic::decode(input, &mut out), &out),
-        b'l' => print_length(argument, input),
-        _ => print_measured(argument, input),
+    match answer_case(case.kind, case.argument, &case.input, &mut notes, &mut out) {
+        Some(answer) => writeln!(to, "{answer}"),
+        None => writeln!(to),
     }
 }
 
-// Every field that one bitmap holds is asked for.
-fn print_reading(message: &[u8]) {
-    let mut notes = [0u8; 1531];
-    match message_reader::read(message, &mut notes) {
-        ReadAnswer::Accepted { used, bitmaps } => {
-            print(b"used ");
-            print_number(used as u64);
-            print(b" bitmaps ");
-            print_number(bitmaps as u64);
-            print_fields(message, &notes);
+fn answer_case<'a>(
+    kind: u8,
+    argument: usize,
+    input: &'a [u8],
+    notes: &'a mut [u8],
+    out: &'a mut [u8],
+) -> Option<Answer<'a>> {
+    Some(match kind {
+        b'r' => tell_read(input, notes),
+        b'c' => {
+            let (notes, values) = notes_and_values(argument, input)?;
+            let cleaned = message_write::write_clean(values, notes, out);
+            Answer::Cleaned(tell_written(cleaned.answer, out), cleaned.padded.to_bytes())
         }
-        ReadAnswer::Refused(_) => print(b"refused"),
-    }
-}
-
-fn print_fields(values: &[u8], notes: &[u8]) {
-    let mut field: usize = 2;
-    while field < 65 {
-        print_field(values, notes, field);
-        field += 1;
-    }
-}
-
-fn print_field(values: &[u8], notes: &[u8], field: usize) {
-    match message_lookup::look_up(values, notes, field) {
-        Found::At {
-            offset: _,
-            length: _,
-        } => {
-            print(b" ");
-            print_number(field as u64);
-            print(b"=");
-            print_hex(message_lookup::content(values, notes, field));
+        b'e' => {
+            let (notes, values) = notes_and_values(argument, input)?;
+            let answer = message_write::write_exact(values, notes, out);
+            Answer::Written(tell_written(answer, out))
         }
-        Found::Refused(_) => print(b""),
-    }
+        b'q' => {
+            let (notes, values) = notes_and_values(argument, input)?;
+            tell_required(validation_required::check_required(values, notes))
+        }
+        b'p' => tell_check(validation_pan::check_pan(input)),
+        b'd' => tell_check(validation_dates::check_date(input)),
+        b't' => tell_check(validation_dates::check_time(input)),
+        // Only the class is asked: 16.
+        b'k' => match validation_field::field_fault(argument, input) {
+            refusal::CLASS_BROKEN => Answer::Refused,
+            _ => Answer::Good,
+        },
+        b'f' => match validation_field::field_fault(argument, input) {
+            0 => Answer::Good,
+            fault => Answer::RefusedFor(usize::from(fault)),
+        },
+        b'b' => {
+            let answer = encoding_bcd::encode(input, out);
+            Answer::Written(tell_written(answer, out))
+        }
+        b'u' => {
+            let answer = encoding_bcd::decode(input, argument, out);
+            Answer::Written(tell_written(answer, out))
+        }
+        b'x' => {
+            let answer = encoding_ebcdic::encode(input, out);
+            Answer::Written(tell_written(answer, out))
+        }
+        b'a' => {
+            let answer = encoding_ebcdic::decode(input, out);
+            Answer::Written(tell_written(answer, out))
+        }
+        // The input is the encoding's number and a length in two bytes.
+        b'l' => {
+            let [number, high, low] = *input.first_chunk::<3>()?;
+            let length = usize::from(u16::from_be_bytes([high, low]));
+            let answer = encoding_length::encode(length, argument, encoding_of(number), out);
+            Answer::Written(tell_written(answer, out))
+        }
+        // The input is the encoding's number and the indicator.
+        _ => {
+            let (number, indicator) = input.split_first()?;
+            tell_length(encoding_length::decode(indicator, argument, encoding_of(*number)))
+        }
+    })
 }
 
 // The input is notes of so many fields, then the values.
-fn print_clean(fields: usize, input: &[u8]) {
+fn notes_and_values(fields: usize, input: &[u8]) -> Option<(&[u8], &[u8])> {
     if fields > 192 {
-        return;
+        return None;
     }
-    let end = 11 + 8 * fields;
-    if input.len() < end {
-        return;
-    }
-    let mut out = [0u8; ROOM];
-    let cleaned = message_write::write_clean(&input[end..], &input[0..end], &mut out);
-    let answer = cleaned.answer;
-    let padded = cleaned.padded;
-    print_output(answer, &out);
-    print(b" padded ");
-    print_hex(&padded.to_bytes());
+    input.split_at_checked(11 + 8 * fields)
 }
 
-fn print_exact(fields: usize, input: &[u8]) {
-    if fields > 192 {
-        return;
+fn tell_read<'a>(message: &'a [u8], notes: &'a mut [u8]) -> Answer<'a> {
+    match message_reader::read(message, notes) {
+        ReadAnswer::Accepted { used, bitmaps } => Answer::Read {
+            used,
+            bitmaps,
+            message,
+            notes,
+        },
+        ReadAnswer::Refused(_) => Answer::Refused,
     }
-    let end = 11 + 8 * fields;
-    if input.len() < end {
-        return;
+}
+
+fn tell_written(answer: Output, out: &[u8]) -> Written<'_> {
+    match answer {
+        Output::Written(n) => Written(out.get(..n)),
+        Output::Refused(_) => Written(None),
     }
-    let mut out = [0u8; ROOM];
-    let answer = message_write::write_exact(&input[end..], &input[0..end], &mut out);
-    print_output(answer, &out);
+}
+
+fn tell_check<'a>(answer: Checked) -> Answer<'a> {
+    match answer {
+        Checked::Passed => Answer::Good,
+        Checked::Refused(_) => Answer::Refused,
+    }
 }
 
 // Which field is missing, if one is.
-fn print_required(fields: usize, input: &[u8]) {
-    if fields > 192 {
-        return;
-    }
-    let end = 11 + 8 * fields;
-    if input.len() < end {
-        return;
-    }
-    match validation_required::check_required(&input[end..], &input[0..end]) {
-        Checked::Passed => print(b"good"),
-        Checked::Refused(why) => {
-            print(b"refused ");
-            print_number(why.field as u64);
-        }
-    }
-}
-
-fn print_output(answer: Output, out: &[u8]) {
+fn tell_required<'a>(answer: Checked) -> Answer<'a> {
     match answer {
-        Output::Written(n) => print_front(out, n),
-        Output::Refused(_) => print(b"refused"),
+        Checked::Passed => Answer::Good,
+        Checked::Refused(why) => Answer::RefusedFor(why.field),
     }
 }
 
-fn print_front(out: &[u8], n: usize) {
-    if out.len() < n {
-        return;
-    }
-    print_hex(&out[0..n]);
-}
-
-// The input is the encoding's number and a length in two bytes.
-fn print_length(digits: usize, input: &[u8]) {
-    if input.len() < 3 {
-        return;
-    }
-    let length = octets::wide(input[1]) * 256 + octets::wide(input[2]);
-    let mut out = [0u8; ROOM];
-    print_output(
-        encoding_length::encode(length, digits, encoding_of(input[0]), &mut out),
-        &out,
-    );
-}
-
-// The input is the encoding's number and the indicator.
-fn print_measured(digits: usize, input: &[u8]) {
-    if input.len() < 1 {
-        return;
-    }
-    match encoding_length::decode(&input[1..], digits, encoding_of(input[0])) {
-        Measured::Length(n) => print_number(n as u64),
-        Measured::Refused(_) => print(b"refused"),
+fn tell_length<'a>(answer: Measured) -> Answer<'a> {
+    match answer {
+        Measured::Length(n) => Answer::Length(n),
+        Measured::Refused(_) => Answer::Refused,
     }
 }
 
@@ -239,47 +245,47 @@ fn encoding_of(number: u8) -> Encoding {
     }
 }
 
-fn print_check(answer: Checked) {
-    match answer {
-        Checked::Passed => print(b"good"),
-        Checked::Refused(_) => print(b"refused"),
+impl fmt::Display for Answer<'_> {
+    fn fmt<W: fmt::Write>(&self, f: &mut fmt::Formatter<W>) -> fmt::Result {
+        match self {
+            Answer::Good => write!(f, "good"),
+            Answer::Refused => write!(f, "refused"),
+            Answer::RefusedFor(n) => write!(f, "refused {n}"),
+            Answer::Length(n) => write!(f, "{n}"),
+            Answer::Written(written) => write!(f, "{written}"),
+            Answer::Cleaned(written, padded) => write!(f, "{written} padded {}", Hex(padded)),
+            Answer::Read {
+                used,
+                bitmaps,
+                message,
+                notes,
+            } => {
+                write!(f, "used {used} bitmaps {bitmaps}")?;
+                for field in 2..65 {
+                    if let Found::At { .. } = message_lookup::look_up(message, notes, field) {
+                        write!(f, " {field}={}", Hex(message_lookup::content(message, notes, field)))?;
+                    }
+                }
+                Ok(())
+            }
+        }
     }
 }
 
-// Only the class is asked: 16.
-fn print_class(fault: u8) {
-    if fault == refusal::CLASS_BROKEN {
-        print(b"refused");
-        return;
-    }
-    print(b"good");
-}
-
-fn print_fault(fault: u8) {
-    if fault == 0 {
-        print(b"good");
-        return;
-    }
-    print(b"refused ");
-    print_number(octets::wide(fault) as u64);
-}
-
-fn print_hex(bytes: &[u8]) {
-    let mut i: usize = 0;
-    while i < bytes.len() {
-        print_byte(bytes[i]);
-        i += 1;
+impl fmt::Display for Written<'_> {
+    fn fmt<W: fmt::Write>(&self, f: &mut fmt::Formatter<W>) -> fmt::Result {
+        match self.0 {
+            Some(bytes) => write!(f, "{}", Hex(bytes)),
+            None => write!(f, "refused"),
+        }
     }
 }
 
-fn print_byte(b: u8) {
-    io::print_hex(STDOUT, b as u64, 2);
-}
-
-fn print_number(n: u64) {
-    io::print_decimal(STDOUT, n);
-}
-
-fn print(text: &[u8]) {
-    io::write_all(STDOUT, text);
+impl fmt::Display for Hex<'_> {
+    fn fmt<W: fmt::Write>(&self, f: &mut fmt::Formatter<W>) -> fmt::Result {
+        for b in self.0 {
+            write!(f, "{b:02x}")?;
+        }
+        Ok(())
+    }
 }
