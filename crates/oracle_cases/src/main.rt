@@ -9,9 +9,8 @@ use message_lookup::Found;
 use message_reader::ReadAnswer;
 use refusal::{Checked, Output};
 use std::alloc::Global;
-use std::fmt;
-use std::io;
 use std::io::{BufReader, BufWriter, Read, Write};
+use std::{fmt, io};
 
 // The most cases that are run.
 const CASES: usize = 100_000;
@@ -19,13 +18,14 @@ const CASES: usize = 100_000;
 // The most bytes of an input, and of what is written.
 const ROOM: usize = 1200;
 
+// The notes of any message fit in this.
 const NOTES_ROOM: usize = 1531;
 
 // A case: a letter for its kind, an argument and the input.
 #[derive(Drop)]
 struct Case {
     kind: u8,
-    argument: usize,
+    argument: u8,
     input: Vec<u8>,
 }
 
@@ -70,11 +70,11 @@ fn main(rt: HostRuntime) -> io::Result<()> {
 // Reads the next case, if there is one: a letter, then in hexadecimal the input's size (two bytes), an argument (one) and the input.
 fn read_case<R: Read>(alloc: Global, from: &mut R) -> io::Result<Option<Case>> {
     let front = read_up_to(alloc, from, 9)?;
-    let Some((head, _)) = front.split_first_chunk::<9>() else {
+    let Some(front) = front.first_chunk::<9>() else {
         return Ok(None);
     };
     let mut numbers = [0u8; 3];
-    decode_hex(&head[2..8], &mut numbers);
+    decode_hex(&front[2..8], &mut numbers);
     let [high, low, argument] = numbers;
     let size = usize::from(u16::from_be_bytes([high, low]));
     if size > ROOM {
@@ -86,8 +86,8 @@ fn read_case<R: Read>(alloc: Global, from: &mut R) -> io::Result<Option<Case>> {
     let mut input = vec![in alloc; 0; size]?;
     decode_hex(&line, &mut input);
     Ok(Some(Case {
-        kind: head[0],
-        argument: usize::from(argument),
+        kind: front[0],
+        argument,
         input,
     }))
 }
@@ -112,37 +112,33 @@ fn hex_value(b: u8) -> u8
     if b < 58 { b % 16 } else { (b % 16 + 9) % 16 }
 }
 
-// Prints a line, which is empty where the input is too short for its kind.
+// Prints the line of a case.
 fn print_answer<W: Write>(case: &Case, to: &mut W) -> io::Result<()> {
     let mut notes = [0u8; NOTES_ROOM];
     let mut out = [0u8; ROOM];
-    match answer_case(case.kind, case.argument, &case.input, &mut notes, &mut out) {
+    match answer_case(case, &mut notes, &mut out) {
         Some(answer) => writeln!(to, "{answer}"),
         None => writeln!(to),
     }
 }
 
-fn answer_case<'a>(
-    kind: u8,
-    argument: usize,
-    input: &'a [u8],
-    notes: &'a mut [u8],
-    out: &'a mut [u8],
-) -> Option<Answer<'a>> {
-    Some(match kind {
+// The answer to a case: none where the input is too short for its kind.
+fn answer_case<'a>(case: &'a Case, notes: &'a mut [u8], out: &'a mut [u8]) -> Option<Answer<'a>> {
+    let argument = usize::from(case.argument);
+    let input = case.input.as_slice();
+    Some(match case.kind {
         b'r' => tell_read(input, notes),
         b'c' => {
-            let (notes, values) = notes_and_values(argument, input)?;
+            let (notes, values) = notes_and_values(case.argument, input)?;
             let cleaned = message_write::write_clean(values, notes, out);
             Answer::Cleaned(tell_written(cleaned.answer, out), cleaned.padded.to_bytes())
         }
         b'e' => {
-            let (notes, values) = notes_and_values(argument, input)?;
-            let answer = message_write::write_exact(values, notes, out);
-            Answer::Written(tell_written(answer, out))
+            let (notes, values) = notes_and_values(case.argument, input)?;
+            Answer::Written(tell_written(message_write::write_exact(values, notes, out), out))
         }
         b'q' => {
-            let (notes, values) = notes_and_values(argument, input)?;
+            let (notes, values) = notes_and_values(case.argument, input)?;
             tell_required(validation_required::check_required(values, notes))
         }
         b'p' => tell_check(validation_pan::check_pan(input)),
@@ -157,28 +153,18 @@ fn answer_case<'a>(
             0 => Answer::Good,
             fault => Answer::RefusedFor(usize::from(fault)),
         },
-        b'b' => {
-            let answer = encoding_bcd::encode(input, out);
-            Answer::Written(tell_written(answer, out))
-        }
-        b'u' => {
-            let answer = encoding_bcd::decode(input, argument, out);
-            Answer::Written(tell_written(answer, out))
-        }
-        b'x' => {
-            let answer = encoding_ebcdic::encode(input, out);
-            Answer::Written(tell_written(answer, out))
-        }
-        b'a' => {
-            let answer = encoding_ebcdic::decode(input, out);
-            Answer::Written(tell_written(answer, out))
-        }
+        b'b' => Answer::Written(tell_written(encoding_bcd::encode(input, out), out)),
+        b'u' => Answer::Written(tell_written(encoding_bcd::decode(input, argument, out), out)),
+        b'x' => Answer::Written(tell_written(encoding_ebcdic::encode(input, out), out)),
+        b'a' => Answer::Written(tell_written(encoding_ebcdic::decode(input, out), out)),
         // The input is the encoding's number and a length in two bytes.
         b'l' => {
             let [number, high, low] = *input.first_chunk::<3>()?;
             let length = usize::from(u16::from_be_bytes([high, low]));
-            let answer = encoding_length::encode(length, argument, encoding_of(number), out);
-            Answer::Written(tell_written(answer, out))
+            Answer::Written(tell_written(
+                encoding_length::encode(length, argument, encoding_of(number), out),
+                out,
+            ))
         }
         // The input is the encoding's number and the indicator.
         _ => {
@@ -189,11 +175,8 @@ fn answer_case<'a>(
 }
 
 // The input is notes of so many fields, then the values.
-fn notes_and_values(fields: usize, input: &[u8]) -> Option<(&[u8], &[u8])> {
-    if fields > 192 {
-        return None;
-    }
-    input.split_at_checked(11 + 8 * fields)
+fn notes_and_values(fields: u8, input: &[u8]) -> Option<(&[u8], &[u8])> {
+    input.split_at_checked(11 + 8 * usize::from(fields))
 }
 
 fn tell_read<'a>(message: &'a [u8], notes: &'a mut [u8]) -> Answer<'a> {
@@ -263,7 +246,11 @@ impl fmt::Display for Answer<'_> {
                 write!(f, "used {used} bitmaps {bitmaps}")?;
                 for field in 2..65 {
                     if let Found::At { .. } = message_lookup::look_up(message, notes, field) {
-                        write!(f, " {field}={}", Hex(message_lookup::content(message, notes, field)))?;
+                        write!(
+                            f,
+                            " {field}={}",
+                            Hex(message_lookup::content(message, notes, field))
+                        )?;
                     }
                 }
                 Ok(())
