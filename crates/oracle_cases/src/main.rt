@@ -105,7 +105,7 @@ fn decode_hex(text: &[u8], out: &mut [u8]) {
     }
 }
 
-// The value of a hexadecimal digit, 0 to 9 or a to f. Any other byte counts as some digit.
+// The value of a hexadecimal digit, 0 to 9 or a to f. By hand, since any other byte counts as some digit too.
 fn hex_value(b: u8) -> u8
     ensures { result < 16 }
 {
