@@ -12,7 +12,7 @@ use std::io;
 use std::io::{Read, Write};
 
 // Reads to the end, or one byte further than a report takes, and prints the report of what was read. A read that fails counts as the
-// end, and its error is answered behind the report.
+// end: the report is printed, and then the error answered.
 pub fn print_report<R: Read, W: Write>(from: &mut R, to: &mut W) -> io::Result<()>
     ensures reads { OnOk result (IfSome (R.remaining from.old) (λ xs. Consumes (Some xs) (R.remaining from.new) (take (input_most + 1) xs))) }
     ensures prints { OnOk result (IfSome (R.remaining from.old) (λ xs. Appends (W.contents to.old) (W.contents to.new) (report_of (dialect house) xs))) }
@@ -33,6 +33,7 @@ fn print_lines<W: Write>(input: &[u8], to: &mut W) -> io::Result<()>
 }
 
 // Reads until buf is full, the input ends or a read fails, and answers how many bytes it put at the front of buf, and that failure.
+// By index: `read_exact` does not say how many bytes it put, and `read_to_end` fills a Vec, where memory here is fixed.
 fn read_full<R: Read>(from: &mut R, buf: &mut [u8]) -> (usize, io::Result<()>)
     ensures within { result.0 ≤ length buf.new }
     ensures bytes { Consumes (R.remaining from.old) (R.remaining from.new) (take result.0 buf.new) }
