@@ -1,4 +1,4 @@
-//! The answers, as they are printed.
+// The answers, as they are printed.
 
 use bitmap::FieldSet;
 use encoding_length::Measured;
@@ -9,7 +9,7 @@ use packed_link::Translated;
 use refusal::{Checked, Output, Refusal};
 use std::fmt::{self, Display};
 
-/// What a routine answers.
+// What a routine answers.
 #[derive(Clone, Copy)]
 pub enum Answer {
     Passed,
@@ -42,7 +42,7 @@ impl Display for Answer {
     }
 }
 
-/// What the cleaning writer answers, with the fields that it padded.
+// What the cleaning writer answers, with the fields that it padded.
 #[derive(Clone, Copy)]
 pub struct Cleaning {
     answer: Answer,

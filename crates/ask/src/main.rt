@@ -40,15 +40,15 @@ fn main(rt: HostRuntime) -> io::Result<()> {
     let mut line = Vec::with_capacity(alloc, LINE_ROOM)?;
     for _ in 0..u64::MAX {
         line.clear();
-        // A read that fails ends the line, and where it is the line's first the input.
+        // A read that fails is taken for the end of the input.
         let _ = input
             .by_ref()
             .take(LINE_ROOM as u64)
             .read_until(b'\n', &mut line);
         let reply = match line.as_slice() {
             [] => return Ok(()),
-            [text @ .., b'\n'] => reply(alloc, text)?,
-            text if text.len() < LINE_ROOM => reply(alloc, text)?,
+            [text @ .., b'\n'] => reply_to(alloc, text)?,
+            text if text.len() < LINE_ROOM => reply_to(alloc, text)?,
             _ => {
                 let _ = input.skip_until(b'\n');
                 no_question(alloc, b"too long")?
@@ -60,8 +60,8 @@ fn main(rt: HostRuntime) -> io::Result<()> {
     Ok(())
 }
 
-// What is printed for a line.
-fn reply(alloc: Global, line: &[u8]) -> io::Result<Vec<u8>> {
+// The line that is printed for a line.
+fn reply_to(alloc: Global, line: &[u8]) -> io::Result<Vec<u8>> {
     if line.is_empty() || line.starts_with(b"#") {
         return printed(alloc, b"", line);
     }
@@ -76,7 +76,7 @@ fn no_question(alloc: Global, line: &[u8]) -> io::Result<Vec<u8>> {
     printed(alloc, b"not a question: ", line)
 }
 
-// A line's bytes are not always text, so that it goes by bytes.
+// By bytes, since those of a line need not be text.
 fn printed(alloc: Global, front: &[u8], line: &[u8]) -> io::Result<Vec<u8>> {
     let mut bytes = Vec::new(alloc);
     bytes.extend_from_slice(front)?;

@@ -1,4 +1,4 @@
-//! The questions.
+// The questions.
 
 use crate::answer::{carried, checked, cleaned, found, measured, read, written, yes_or_no};
 use crate::room::Room;
@@ -9,7 +9,7 @@ use field_table::Class;
 use std::alloc::AllocError;
 use std::fmt::Write;
 
-/// A question, with what its words ask for in their order.
+// A question, with what its words ask for in their order.
 #[derive(Drop)]
 pub enum Question {
     BcdEncode(Room, Vec<u8>),
@@ -35,7 +35,7 @@ pub enum Question {
 }
 
 impl Question {
-    /// The question that the words ask, up to its last word.
+    // The question that the words ask, up to its last word.
     pub fn from_words(words: &mut Words) -> Result<Self, Fault> {
         Ok(match words.name()? {
             "bcd-encode" => Self::BcdEncode(words.room()?, words.bytes()?),
@@ -67,7 +67,7 @@ impl Question {
         })
     }
 
-    /// Asks the routine, and tells what it answers.
+    // Asks the routine, and tells what it answers.
     pub fn tell(self, to: &mut String) -> Result<(), AllocError> {
         match self {
             Self::BcdEncode(room, bytes) => {

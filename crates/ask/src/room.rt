@@ -1,11 +1,11 @@
-//! The bytes that are lent for writing.
+// The bytes that are lent for writing.
 
 use crate::spelling::{MOST_BYTES, Spelt};
 use crate::words::Fault;
 use std::alloc::{AllocError, Global};
 use std::fmt::{Display, Write};
 
-/// Bytes to lend to a routine, filled so that one that is left as it was shows.
+// Bytes to lend to a routine, filled so that one that is left as it was shows.
 #[derive(Drop)]
 pub struct Room(Vec<u8>);
 
@@ -17,7 +17,7 @@ impl Room {
         Ok(Room(vec![in alloc; 0xEE; size]?))
     }
 
-    /// Lends the bytes to a routine, and tells what it answers and what it leaves in them.
+    // Lends the bytes to a routine, and tells what it answers and what it leaves in them.
     pub fn lend<D: Display + Drop, F: FnOnce(&mut [u8]) -> D>(
         mut self,
         to: &mut String,

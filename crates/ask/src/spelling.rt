@@ -1,4 +1,4 @@
-//! Bytes as a question spells them.
+// Bytes as a question spells them.
 
 ghost use Rattle.std.specs.Prelude.{◌<◌, IfOk};
 
@@ -6,13 +6,13 @@ use crate::words::{Fault, decimal};
 use std::alloc::Global;
 use std::fmt;
 
-/// The most bytes that a word may spell, and that may be lent for writing.
+// The most bytes that a word may spell, and that may be lent for writing.
 pub const MOST_BYTES: usize = 2048;
 
 // The most equal bytes in a row that are printed with no star.
 const UNSTARRED: usize = 16;
 
-/// The bytes that a word spells.
+// The bytes that a word spells.
 pub fn spell(alloc: Global, word: &str) -> Result<Vec<u8>, Fault> {
     let mut bytes = Vec::new(alloc);
     if word == "-" {
@@ -57,7 +57,7 @@ fn hex_value(digit: u8) -> Result<u8, Fault>
     Ok(value as u8)
 }
 
-/// A byte that stands over sixteen times in a row is printed once, with a star and how often.
+// A byte that stands over sixteen times in a row is printed once, with a star and how often.
 #[derive(Clone, Copy)]
 pub struct Spelt<'a>(pub &'a [u8]);
 

@@ -1,4 +1,4 @@
-//! The words of a line.
+// The words of a line.
 
 use crate::room::Room;
 use crate::spelling::{Spelt, spell};
@@ -8,7 +8,7 @@ use std::alloc::{AllocError, Global};
 use std::fmt::Write;
 use std::str::Split;
 
-/// Why a line has no answer.
+// Why a line has no answer.
 #[derive(Debug, Drop)]
 pub enum Fault {
     NoQuestion,
@@ -21,7 +21,7 @@ impl From<AllocError> for Fault {
     }
 }
 
-/// The words of a line that are still to be read, and those that were, as they were understood.
+// The words of a line that are still to be read, and those that were, as they were understood.
 #[derive(Drop)]
 pub struct Words<'a> {
     rest: Split<'a, char>,
@@ -29,14 +29,12 @@ pub struct Words<'a> {
 }
 
 impl<'a> Words<'a> {
-    pub fn new(alloc: Global, line: &'a [u8]) -> Result<Words<'a>, Fault> {
-        match str::from_utf8(line) {
-            Ok(text) => Ok(Words {
-                rest: text.split(' '),
-                understood: String::new(alloc),
-            }),
-            Err(_) => Err(Fault::NoQuestion),
-        }
+    pub fn new(alloc: Global, line: &'a [u8]) -> Result<Self, Fault> {
+        let text = str::from_utf8(line).map_err(|_| Fault::NoQuestion)?;
+        Ok(Words {
+            rest: text.split(' '),
+            understood: String::new(alloc),
+        })
     }
 
     pub fn name(&mut self) -> Result<&'a str, Fault> {
@@ -85,7 +83,7 @@ impl<'a> Words<'a> {
         Ok(bytes)
     }
 
-    /// The question as it was understood, where no word is left.
+    // The question as it was understood, where no word is left.
     pub fn finish(mut self) -> Result<String, Fault> {
         match self.rest.next() {
             None => Ok(self.understood),
@@ -109,7 +107,7 @@ impl<'a> Words<'a> {
     }
 }
 
-/// The number that a word of decimal digits spells.
+// The number that a word of decimal digits spells.
 pub fn decimal(word: &str) -> Result<usize, Fault> {
     // `parse` takes a sign.
     if word.starts_with('+') {
