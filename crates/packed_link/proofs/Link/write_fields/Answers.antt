@@ -1,7 +1,7 @@
 -- The fields written and those still to come make the whole (Carrying).
 use native.Mathlib.Omega.{arith}
 use Rattle.packed_link.proofs.Carrying.{carrying_first, carrying_met, carrying_refused, carrying_judged, carrying_within, carrying_room, carrying_part, carrying_good, carrying_end}
-use Rattle.packed_link.proofs.write_fields.Goals as goal
+use Rattle.packed_link.proofs.Link.write_fields.Goals as goal
 
 pub loop-field-init : goal.loop-field-init
 loop-field-init c = carrying_first _ _ c.requires.start_in_bounds c.requires.judged.1.1 c.requires.room

@@ -5,13 +5,13 @@ use native.Mathlib.Omega.{arith}
 use Rattle.bitmap.specs.Bitmaps.{fields_of}
 use Rattle.bitmap_read.specs.Found.{maps_of}
 use Rattle.packed_link.proofs.Heads.{mti_small, head_few, head_room, list_is}
-use Rattle.packed_link.proofs.translate_fields.Goals as goal
+use Rattle.packed_link.proofs.Link.translate_fields.Goals as goal
 
 pub overflow_mul-end : goal.overflow_mul-end
 overflow_mul-end c = omega (arith, head_few _ _ _ _ (omega arith) c.requires)
 
 pub overflow_add-end : goal.overflow_add-end
-overflow_add-end c = omega (arith, head_few _ _ _ _ (omega arith) c.requires, mti_small c.args.script, c.size_of-start.ensures)
+overflow_add-end c = omega (arith, head_few _ _ _ _ (omega arith) c.requires, mti_small c.args.self.now.script, c.size_of-start.ensures)
 
 pub slice_bounds-list_fields-end : goal.slice_bounds-list_fields-end
 slice_bounds-list_fields-end c = omega (arith, head_room _ _ _ _ (omega arith) c.requires, c.size_of-start.ensures)

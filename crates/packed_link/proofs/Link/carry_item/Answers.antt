@@ -3,7 +3,7 @@ use mathlib.Core.Path.{sym}
 use native.Mathlib.Omega.{arith}
 use lib.Seq.{length-take-le}
 use Rattle.packed_link.proofs.Items.{item_within, first_left, content_asked, item_carried_lem}
-use Rattle.packed_link.proofs.carry_item.Goals as goal
+use Rattle.packed_link.proofs.Link.carry_item.Goals as goal
 
 pub slice_bounds-carry-end : goal.slice_bounds-carry-end
 slice_bounds-carry-end c = sym (length-take-le _ c.args.rest.now (omega (arith, item_within _ _ _ _ _ c.requires.judged)))

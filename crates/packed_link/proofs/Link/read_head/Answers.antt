@@ -4,10 +4,10 @@ use native.Mathlib.Omega.{arith}
 use lib.Seq.{length-take-le}
 use Rattle.packed_link.proofs.Heads.{mti_small, head_short, head_no_digit, head_maps}
 use borrow.Author.Rules.{rules}
-use Rattle.packed_link.proofs.read_head.Goals as goal
+use Rattle.packed_link.proofs.Link.read_head.Goals as goal
 
 pub overflow_add-start : goal.overflow_add-start
-overflow_add-start c = omega (arith, mti_small c.args.script, c.size_of-start.ensures)
+overflow_add-start c = omega (arith, mti_small c.args.self.now.script, c.size_of-start.ensures)
 
 pub returns-then-input-start : goal.returns-then-input-start
 returns-then-input-start c = search (head_short, rules)

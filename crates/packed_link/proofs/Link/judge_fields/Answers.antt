@@ -2,7 +2,7 @@
 use native.Mathlib.Omega.{arith}
 use Rattle.packed_link.specs.Link.{fields_judged}
 use Rattle.packed_link.proofs.Turns.{met, scan_first, scan_refused, scan_within, scan_small, scan_good, scan_end}
-use Rattle.packed_link.proofs.judge_fields.Goals as goal
+use Rattle.packed_link.proofs.Link.judge_fields.Goals as goal
 
 pub loop-field-init : goal.loop-field-init
 loop-field-init c = scan_first c.requires.start_in_bounds

@@ -1,5 +1,0 @@
-use Rattle.packed_link.proofs.Carrying.{Carrying}
-use Rattle.packed_link.proofs.write_fields.Given as goal
-
-abbrev pub invariant-loop-field : goal.invariant-loop-field
-invariant-loop-field l = Carrying l.script l.table l.input l.fields l.start l.initial.out l.out l.at l.written l.field-index
