@@ -9,8 +9,8 @@ use Rattle.octets.specs.Numbers.{digits, number, big_endian, big_endian_of}
 use Rattle.octets.proofs.Lists.{is_between}
 use Rattle.octets.proofs.Numbers.{digits_number}
 use Rattle.refusal.specs.Refusals.{Told}
-use Rattle.refusal.specs.declared.Output.{Output}
-use Rattle.refusal.specs.declared.Output.TheVariants.{Written, Refused}
+use Rattle.std.specs.Prelude.{Result, Ok, Err}
+use Rattle.refusal.specs.declared.Refusal.{Refusal}
 use Rattle.bitmap.specs.Bits.{bit, byte_of, bytes_of}
 use Rattle.bitmap.specs.Bitmaps.{no_fields, set_of}
 use Rattle.message_contents.specs.Contents.{short_in}
@@ -51,10 +51,10 @@ none_spells : (told : Told) → bytes_in (cleaned told no_fields) ≡ no_fields
 unfolding bytes_in cleaned word_at digits number
 none_spells told = refl
 
-answer_spells : (told : Told) (r : Output) (fs : List ℕ) → bytes_in (cleaned told (padded_on r (set_of fs))) ≡ padded_on r (set_of fs)
+answer_spells : (told : Told) (r : Result ℕ Refusal) (fs : List ℕ) → bytes_in (cleaned told (padded_on r (set_of fs))) ≡ padded_on r (set_of fs)
 unfolding padded_on
-answer_spells told (Written k) fs = set_spells told fs
-answer_spells told (Refused r) fs = none_spells told
+answer_spells told (Ok k) fs = set_spells told fs
+answer_spells told (Err r) fs = none_spells told
 
 pub spell_the_padded : SpellThePadded
 unfolding SpellThePadded clean_padded

@@ -8,24 +8,16 @@
 --   measurement t           == what the decoding of a length told
 --   judgement t             == what a check told
 --   word_at s i             == the eight bytes of s from i on, as one number, the first the highest
---   number_of c             == the number of an encoding
---   by_encoding e k none    == k of the encoding whose number is e; none where e is the number of none
 --   encoded_by e w n out    == the answer of writing the length n in w digits in the encoding of the number e
 --   encoded_into e w n out  == each byte of its output
 --   decoded_by e w s        == the answer of reading s as a length of w digits in the encoding of the number e
 --
 -- Assumes nothing: these are definitions.
-use Rattle.std.specs.Prelude.{ℕ, cond, List, get_or, take, drop, eqb}
+use Rattle.std.specs.Prelude.{ℕ, List, get_or, take, drop, Result, Ok, Err}
 use Rattle.octets.specs.Numbers.{decimal, big_endian_of}
-use Rattle.refusal.specs.Numbers.{length_needs_digits}
 use Rattle.refusal.specs.Refusals.{plain, Told, converted, converted_into}
-use Rattle.refusal.specs.declared.Output.{Output}
-use Rattle.refusal.specs.declared.Output.TheVariants.{Refused}
-use Rattle.encoding_length.specs.Lengths.{spelt, encode_fault, measured}
-use Rattle.encoding_length.specs.declared.Encoding.{Encoding}
-use Rattle.encoding_length.specs.declared.Encoding.TheVariants.{Ascii, Bcd, Ebcdic}
-use Rattle.encoding_length.specs.declared.Measured.{Measured}
-use Rattle.encoding_length.specs.declared.Measured.TheVariants.{Refused as NotMeasured}
+use Rattle.refusal.specs.declared.Refusal.{Refusal}
+use Rattle.encoding_length.specs.Lengths.{numbered, spelt, encode_fault, measured}
 use Rattle.desk_terms.specs.declared.Reading.{Reading}
 use Rattle.desk_terms.specs.declared.Written.{Written}
 use Rattle.desk_terms.specs.declared.Cleaned.{Cleaned}
@@ -37,9 +29,9 @@ use Rattle.desk_terms.specs.declared.Judgement.{Judgement}
 unfoldable pub reading : Told → Reading
 reading t =
     record {
-      number = t.refused.number;
-      field = t.refused.field;
-      position = t.refused.position;
+      number = t.number;
+      field = t.field;
+      position = t.position;
       used = get_or t.values 0 0;
       bitmaps = get_or t.values 1 0;
     }
@@ -47,9 +39,9 @@ reading t =
 unfoldable pub written : Told → Written
 written t =
     record {
-      number = t.refused.number;
-      field = t.refused.field;
-      position = t.refused.position;
+      number = t.number;
+      field = t.field;
+      position = t.position;
       length = get_or t.values 0 0;
     }
 
@@ -72,9 +64,9 @@ cleaned t s =
 unfoldable pub found : Told → Found
 found t =
     record {
-      number = t.refused.number;
-      field = t.refused.field;
-      position = t.refused.position;
+      number = t.number;
+      field = t.field;
+      position = t.position;
       offset = get_or t.values 0 0;
       length = get_or t.values 1 0;
     }
@@ -82,9 +74,9 @@ found t =
 unfoldable pub translation : Told → Translation
 translation t =
     record {
-      number = t.refused.number;
-      field = t.refused.field;
-      position = t.refused.position;
+      number = t.number;
+      field = t.field;
+      position = t.position;
       used = get_or t.values 0 0;
       written = get_or t.values 1 0;
     }
@@ -92,30 +84,29 @@ translation t =
 unfoldable pub measurement : Told → Measurement
 measurement t =
     record {
-      number = t.refused.number;
-      field = t.refused.field;
-      position = t.refused.position;
+      number = t.number;
+      field = t.field;
+      position = t.position;
       value = get_or t.values 0 0;
     }
 
 unfoldable pub judgement : Told → Judgement
-judgement t = record { number = t.refused.number; field = t.refused.field; position = t.refused.position }
+judgement t = record { number = t.number; field = t.field; position = t.position }
 
 -- An encoding is a number here, and 01 has no refusal for a wrong one: 25, before every other test.
-abbrev pub number_of : Encoding → ℕ
-number_of Ascii = 0
-number_of Bcd = 1
-number_of Ebcdic = 2
-
-abbrev pub by_encoding : {A : Type 0} → ℕ → (Encoding → A) → A → A
-by_encoding e k none = cond (eqb e 0) (k Ascii) (cond (eqb e 1) (k Bcd) (cond (eqb e 2) (k Ebcdic) none))
-
-unfoldable pub encoded_by : ℕ → ℕ → ℕ → List ℕ → Output
+unfoldable pub encoded_by : ℕ → ℕ → ℕ → List ℕ → Result ℕ Refusal
 encoded_by e w n out =
-    by_encoding e (λ c. converted (encode_fault w n) (spelt c (decimal w n)) out) (Refused (plain length_needs_digits))
+    elim (numbered e) [
+      | Ok c ↦ converted (encode_fault w n) (spelt c (decimal w n)) out
+      | Err x ↦ Err (plain x)
+    ]
 
 unfoldable pub encoded_into : ℕ → ℕ → ℕ → List ℕ → List ℕ
-encoded_into e w n out = by_encoding e (λ c. converted_into (encode_fault w n) (spelt c (decimal w n)) out) out
+encoded_into e w n out =
+    elim (numbered e) [
+      | Ok c ↦ converted_into (encode_fault w n) (spelt c (decimal w n)) out
+      | Err x ↦ out
+    ]
 
-unfoldable pub decoded_by : ℕ → ℕ → List ℕ → Measured
-decoded_by e w s = by_encoding e (λ c. measured c w s) (NotMeasured (plain length_needs_digits))
+unfoldable pub decoded_by : ℕ → ℕ → List ℕ → Result ℕ Refusal
+decoded_by e w s = elim (numbered e) [ Ok c ↦ measured c w s | Err x ↦ Err (plain x) ]

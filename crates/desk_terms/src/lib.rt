@@ -4,17 +4,17 @@
 
 ghost use Rattle.std.specs.Prelude.{◌≡◌};
 ghost use Rattle.refusal.specs.Refusals.{told, told_checked};
-ghost use Rattle.encoding_length.specs.Lengths.{told_length};
 ghost use Rattle.message_reader.specs.Reader.{told_read};
 ghost use Rattle.message_lookup.specs.Lookup.{told_found};
+ghost use Rattle.message_write.specs.Written.{cleaned_answer, cleaned_padded};
 ghost use Rattle.packed_link.specs.Link.{told_link};
 ghost use Rattle.desk_terms.specs.Terms.{reading, written, cleaned, found, translation, measurement, judgement, encoded_by, encoded_into, decoded_by};
 
-use bitmap::FieldSet;
-use encoding_length::{Encoding, Measured};
-use message_reader::ReadAnswer;
+use encoding_length::Encoding;
+use message_lookup::Place;
+use message_reader::Accepted;
 use packed_link::Translated;
-use refusal::{Checked, Output, Refusal};
+use refusal::Refusal;
 
 // What reading tells: the bytes used and the count of bitmaps.
 #[repr(C)]
@@ -93,173 +93,197 @@ pub struct Judgement {
 }
 
 // Encoding with the encoding as a number: 25 where it is none, before every other test, since no count of digits is enough in it.
-pub fn encode_length(length: usize, digits: usize, encoding: u64, out: &mut [u8]) -> Output
+#[tactic(auto, unfolding(crate::specs::Terms::encoded_by, crate::specs::Terms::encoded_into))]
+pub fn encode_length(
+    length: usize,
+    digits: usize,
+    encoding: u64,
+    out: &mut [u8],
+) -> Result<usize, Refusal>
     ensures answers { result ≡ encoded_by encoding digits length out.old }
     ensures writes { out.new ≡ encoded_into encoding digits length out.old }
 {
-    match encoding {
-        0 => encoding_length::encode(length, digits, Encoding::Ascii, out),
-        1 => encoding_length::encode(length, digits, Encoding::Bcd, out),
-        2 => encoding_length::encode(length, digits, Encoding::Ebcdic, out),
-        _ => Output::Refused(NO_ENCODING),
-    }
+    encoding_length::encode(length, digits, Encoding::try_from(encoding)?, out)
 }
 
 // Decoding with the encoding as a number, in the same way.
-pub fn decode_length(source: &[u8], digits: usize, encoding: u64) -> Measured
+#[tactic(auto, unfolding(crate::specs::Terms::decoded_by))]
+pub fn decode_length(source: &[u8], digits: usize, encoding: u64) -> Result<usize, Refusal>
     ensures { result ≡ decoded_by encoding digits source.now }
 {
-    match encoding {
-        0 => encoding_length::decode(source, digits, Encoding::Ascii),
-        1 => encoding_length::decode(source, digits, Encoding::Bcd),
-        2 => encoding_length::decode(source, digits, Encoding::Ebcdic),
-        _ => Measured::Refused(NO_ENCODING),
-    }
+    encoding_length::decode(source, digits, Encoding::try_from(encoding)?)
 }
 
-const NO_ENCODING: Refusal = Refusal {
-    number: refusal::LENGTH_NEEDS_DIGITS,
-    field: 0,
-    position: 0,
-};
-
 // A reading, told.
-pub fn tell_read(answer: ReadAnswer) -> Reading
-    ensures { result ≡ reading (told_read answer) }
-{
-    match answer {
-        ReadAnswer::Accepted { used, bitmaps } => Reading {
-            number: 0,
-            field: 0,
-            position: 0,
-            used: used as u64,
-            bitmaps: bitmaps as u64,
-        },
-        ReadAnswer::Refused(why) => Reading {
-            number: why.number as u64,
-            field: why.field as u64,
-            position: why.position as u64,
-            used: 0,
-            bitmaps: 0,
-        },
+impl From<Result<Accepted, Refusal>> for Reading {
+    ghost from_gives = { λ a r. r ≡ reading (told_read a) };
+
+    #[tactic(auto, unfolding(crate::specs::Terms::reading))]
+    fn from(answer: Result<Accepted, Refusal>) -> Reading {
+        match answer {
+            Ok(Accepted { used, bitmaps }) => Reading {
+                number: 0,
+                field: 0,
+                position: 0,
+                used: used as u64,
+                bitmaps: bitmaps as u64,
+            },
+            Err(why) => Reading {
+                number: why.cause.number() as u64,
+                field: why.field as u64,
+                position: why.position as u64,
+                used: 0,
+                bitmaps: 0,
+            },
+        }
     }
 }
 
 // A writing or a conversion, told.
-pub fn tell_written(answer: Output) -> Written
-    ensures { result ≡ written (told answer) }
-{
-    match answer {
-        Output::Written(n) => Written {
-            number: 0,
-            field: 0,
-            position: 0,
-            length: n as u64,
-        },
-        Output::Refused(why) => Written {
-            number: why.number as u64,
-            field: why.field as u64,
-            position: why.position as u64,
-            length: 0,
-        },
+impl From<Result<usize, Refusal>> for Written {
+    ghost from_gives = { λ a r. r ≡ written (told a) };
+
+    #[tactic(auto, unfolding(crate::specs::Terms::written))]
+    fn from(answer: Result<usize, Refusal>) -> Written {
+        match answer {
+            Ok(length) => Written {
+                number: 0,
+                field: 0,
+                position: 0,
+                length: length as u64,
+            },
+            Err(why) => Written {
+                number: why.cause.number() as u64,
+                field: why.field as u64,
+                position: why.position as u64,
+                length: 0,
+            },
+        }
     }
 }
 
 // A cleaning and the fields that it padded, told.
-pub fn tell_cleaned(answer: Output, padded: FieldSet) -> Cleaned
-    ensures { result ≡ cleaned (told answer) padded.bits }
-{
-    let told = tell_written(answer);
-    let bits = padded.to_bytes();
-    Cleaned {
-        number: told.number,
-        field: told.field,
-        position: told.position,
-        length: told.length,
-        padded1: octets::big_endian_of(&bits[0..8]) as u64,
-        padded2: octets::big_endian_of(&bits[8..16]) as u64,
-        padded3: octets::big_endian_of(&bits[16..24]) as u64,
+impl From<Result<message_write::Cleaned, Refusal>> for Cleaned {
+    ghost from_gives = { λ a r. r ≡ cleaned (told (cleaned_answer a)) (cleaned_padded a) };
+
+    #[tactic(auto, unfolding(crate::specs::Terms::cleaned, crate::specs::Terms::word_at, crate::specs::Terms::written))]
+    fn from(answer: Result<message_write::Cleaned, Refusal>) -> Cleaned {
+        match answer {
+            Ok(cleaned) => {
+                let bits = cleaned.padded.to_bytes();
+                Cleaned {
+                    number: 0,
+                    field: 0,
+                    position: 0,
+                    length: cleaned.length as u64,
+                    padded1: octets::big_endian_of(&bits[0..8]) as u64,
+                    padded2: octets::big_endian_of(&bits[8..16]) as u64,
+                    padded3: octets::big_endian_of(&bits[16..24]) as u64,
+                }
+            }
+            Err(why) => Cleaned {
+                number: why.cause.number() as u64,
+                field: why.field as u64,
+                position: why.position as u64,
+                length: 0,
+                padded1: 0,
+                padded2: 0,
+                padded3: 0,
+            },
+        }
     }
 }
 
 // A lookup, told.
-pub fn tell_found(answer: message_lookup::Found) -> Found
-    ensures { result ≡ found (told_found answer) }
-{
-    match answer {
-        message_lookup::Found::At { offset, length } => Found {
-            number: 0,
-            field: 0,
-            position: 0,
-            offset: offset as u64,
-            length: length as u64,
-        },
-        message_lookup::Found::Refused(why) => Found {
-            number: why.number as u64,
-            field: why.field as u64,
-            position: why.position as u64,
-            offset: 0,
-            length: 0,
-        },
+impl From<Result<Place, Refusal>> for Found {
+    ghost from_gives = { λ a r. r ≡ found (told_found a) };
+
+    #[tactic(auto, unfolding(crate::specs::Terms::found))]
+    fn from(answer: Result<Place, Refusal>) -> Found {
+        match answer {
+            Ok(Place { offset, length }) => Found {
+                number: 0,
+                field: 0,
+                position: 0,
+                offset: offset as u64,
+                length: length as u64,
+            },
+            Err(why) => Found {
+                number: why.cause.number() as u64,
+                field: why.field as u64,
+                position: why.position as u64,
+                offset: 0,
+                length: 0,
+            },
+        }
     }
 }
 
 // A message carried over the packed link, told.
-pub fn tell_translated(answer: Translated) -> Translation
-    ensures { result ≡ translation (told_link answer) }
-{
-    match answer {
-        Translated::Done { used, written } => Translation {
-            number: 0,
-            field: 0,
-            position: 0,
-            used: used as u64,
-            written: written as u64,
-        },
-        Translated::Refused(why) => Translation {
-            number: why.number as u64,
-            field: why.field as u64,
-            position: why.position as u64,
-            used: 0,
-            written: 0,
-        },
+impl From<Result<Translated, Refusal>> for Translation {
+    ghost from_gives = { λ a r. r ≡ translation (told_link a) };
+
+    #[tactic(auto, unfolding(crate::specs::Terms::translation))]
+    fn from(answer: Result<Translated, Refusal>) -> Translation {
+        match answer {
+            Ok(Translated { used, written }) => Translation {
+                number: 0,
+                field: 0,
+                position: 0,
+                used: used as u64,
+                written: written as u64,
+            },
+            Err(why) => Translation {
+                number: why.cause.number() as u64,
+                field: why.field as u64,
+                position: why.position as u64,
+                used: 0,
+                written: 0,
+            },
+        }
     }
 }
 
 // The decoding of a length, told.
-pub fn tell_measured(answer: Measured) -> Measurement
-    ensures { result ≡ measurement (told_length answer) }
-{
-    match answer {
-        Measured::Length(value) => Measurement {
-            number: 0,
-            field: 0,
-            position: 0,
-            value: value as u64,
-        },
-        Measured::Refused(why) => Measurement {
-            number: why.number as u64,
-            field: why.field as u64,
-            position: why.position as u64,
-            value: 0,
-        },
+impl From<Result<usize, Refusal>> for Measurement {
+    ghost from_gives = { λ a r. r ≡ measurement (told a) };
+
+    #[tactic(auto, unfolding(crate::specs::Terms::measurement))]
+    fn from(answer: Result<usize, Refusal>) -> Measurement {
+        match answer {
+            Ok(value) => Measurement {
+                number: 0,
+                field: 0,
+                position: 0,
+                value: value as u64,
+            },
+            Err(why) => Measurement {
+                number: why.cause.number() as u64,
+                field: why.field as u64,
+                position: why.position as u64,
+                value: 0,
+            },
+        }
     }
 }
 
 // A check, told.
-pub fn tell_checked(answer: Checked) -> Judgement
-    ensures { result ≡ judgement (told_checked answer) }
-{
-    match answer {
-        Checked::Passed => Judgement {
-            number: 0,
-            field: 0,
-            position: 0,
-        },
-        Checked::Refused(why) => Judgement {
-            number: why.number as u64,
-            field: why.field as u64,
-            position: why.position as u64,
-        },
+impl From<Result<(), Refusal>> for Judgement {
+    ghost from_gives = { λ a r. r ≡ judgement (told_checked a) };
+
+    #[tactic(auto, unfolding(crate::specs::Terms::judgement))]
+    fn from(answer: Result<(), Refusal>) -> Judgement {
+        match answer {
+            Ok(()) => Judgement {
+                number: 0,
+                field: 0,
+                position: 0,
+            },
+            Err(why) => Judgement {
+                number: why.cause.number() as u64,
+                field: why.field as u64,
+                position: why.position as u64,
+            },
+        }
     }
 }

@@ -1,3 +1,0 @@
-pub mod Encodings
-pub mod Telling
-pub mod Words
