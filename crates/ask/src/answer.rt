@@ -1,24 +1,21 @@
 // The answers, as they are printed.
 
-use bitmap::FieldSet;
-use encoding_length::Measured;
-use message_lookup::Found;
-use message_reader::ReadAnswer;
+use message_lookup::Place;
+use message_reader::Accepted;
 use message_write::Cleaned;
 use packed_link::Translated;
-use refusal::{Checked, Output, Refusal};
+use refusal::Refusal;
 use std::fmt::{self, Display};
 
-// What a routine answers.
+// What a routine answers that does not refuse.
 #[derive(Clone, Copy)]
 pub enum Answer {
     Passed,
     Length(usize),
     Written(usize),
-    At { offset: usize, length: usize },
-    Read { used: usize, bitmaps: usize },
-    Carried { used: usize, written: usize },
-    Refused(Refusal),
+    At(Place),
+    Read(Accepted),
+    Carried(Translated),
 }
 
 impl Display for Answer {
@@ -27,33 +24,43 @@ impl Display for Answer {
             Answer::Passed => f.write_str("passed"),
             Answer::Length(n) => write!(f, "{n}"),
             Answer::Written(n) => write!(f, "wrote {n}"),
-            Answer::At { offset, length } => write!(f, "at {offset} length {length}"),
-            Answer::Read { used, bitmaps } => write!(f, "used {used}, bitmaps {bitmaps}"),
-            Answer::Carried { used, written } => write!(f, "used {used} written {written}"),
-            // The till program's form.
-            Answer::Refused(why) => {
-                write!(
-                    f,
-                    "refused {} field {} at {}",
-                    why.number, why.field, why.position
-                )
+            Answer::At(Place { offset, length }) => write!(f, "at {offset} length {length}"),
+            Answer::Read(Accepted { used, bitmaps }) => {
+                write!(f, "used {used}, bitmaps {bitmaps}")
+            }
+            Answer::Carried(Translated { used, written }) => {
+                write!(f, "used {used} written {written}")
             }
         }
     }
 }
 
-// What the cleaning writer answers, with the fields that it padded.
+// An answer, or why there is none.
 #[derive(Clone, Copy)]
-pub struct Cleaning {
-    answer: Answer,
-    padded: FieldSet,
+pub struct Told(Result<Answer, Refusal>);
+
+impl Display for Told {
+    fn fmt<W: fmt::Write>(&self, f: &mut fmt::Formatter<W>) -> fmt::Result {
+        match self.0 {
+            Ok(answer) => write!(f, "{answer}"),
+            Err(why) => write!(f, "{why}"),
+        }
+    }
 }
+
+// What the cleaning writer answers, with the fields that it padded: none where it refuses.
+#[derive(Clone, Copy)]
+pub struct Cleaning(Result<Cleaned, Refusal>);
 
 impl Display for Cleaning {
     fn fmt<W: fmt::Write>(&self, f: &mut fmt::Formatter<W>) -> fmt::Result {
-        write!(f, "{}, padded", self.answer)?;
+        let cleaned = match self.0 {
+            Ok(cleaned) => cleaned,
+            Err(why) => return write!(f, "{why}, padded none"),
+        };
+        write!(f, "{}, padded", Answer::Written(cleaned.length))?;
         let mut none = true;
-        for field in (2..=192).filter(|field| self.padded.has(*field)) {
+        for field in (2..=192).filter(|field| cleaned.padded.has(*field)) {
             write!(f, " {field}")?;
             none = false;
         }
@@ -68,53 +75,32 @@ pub fn yes_or_no(is_so: bool) -> &'static str {
     if is_so { "yes" } else { "no" }
 }
 
-// The types of the library's own answers are taken apart below, and nowhere else.
+// The library's own answers, by what is printed of them.
 
-pub fn written(answer: Output) -> Answer {
-    match answer {
-        Output::Written(n) => Answer::Written(n),
-        Output::Refused(why) => Answer::Refused(why),
-    }
+pub fn written(answer: Result<usize, Refusal>) -> Told {
+    Told(answer.map(|n| Answer::Written(n)))
 }
 
-pub fn cleaned(answer: Cleaned) -> Cleaning {
-    Cleaning {
-        answer: written(answer.answer),
-        padded: answer.padded,
-    }
+pub fn cleaned(answer: Result<Cleaned, Refusal>) -> Cleaning {
+    Cleaning(answer)
 }
 
-pub fn checked(answer: Checked) -> Answer {
-    match answer {
-        Checked::Passed => Answer::Passed,
-        Checked::Refused(why) => Answer::Refused(why),
-    }
+pub fn checked(answer: Result<(), Refusal>) -> Told {
+    Told(answer.map(|()| Answer::Passed))
 }
 
-pub fn measured(answer: Measured) -> Answer {
-    match answer {
-        Measured::Length(n) => Answer::Length(n),
-        Measured::Refused(why) => Answer::Refused(why),
-    }
+pub fn measured(answer: Result<usize, Refusal>) -> Told {
+    Told(answer.map(|n| Answer::Length(n)))
 }
 
-pub fn found(answer: Found) -> Answer {
-    match answer {
-        Found::At { offset, length } => Answer::At { offset, length },
-        Found::Refused(why) => Answer::Refused(why),
-    }
+pub fn found(answer: Result<Place, Refusal>) -> Told {
+    Told(answer.map(|place| Answer::At(place)))
 }
 
-pub fn read(answer: ReadAnswer) -> Answer {
-    match answer {
-        ReadAnswer::Accepted { used, bitmaps } => Answer::Read { used, bitmaps },
-        ReadAnswer::Refused(why) => Answer::Refused(why),
-    }
+pub fn read(answer: Result<Accepted, Refusal>) -> Told {
+    Told(answer.map(|accepted| Answer::Read(accepted)))
 }
 
-pub fn carried(answer: Translated) -> Answer {
-    match answer {
-        Translated::Done { used, written } => Answer::Carried { used, written },
-        Translated::Refused(why) => Answer::Refused(why),
-    }
+pub fn carried(answer: Result<Translated, Refusal>) -> Told {
+    Told(answer.map(|translated| Answer::Carried(translated)))
 }

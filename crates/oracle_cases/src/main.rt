@@ -4,10 +4,10 @@
 
 ghost use Rattle.std.specs.Prelude.{◌<◌};
 
-use encoding_length::{Encoding, Measured};
-use message_lookup::Found;
-use message_reader::ReadAnswer;
-use refusal::{Checked, Output};
+use bitmap::FieldSet;
+use encoding_length::Encoding;
+use message_reader::Accepted;
+use refusal::{Cause, Refusal};
 use std::alloc::Global;
 use std::io::{BufReader, BufWriter, Read, Write};
 use std::{fmt, io};
@@ -130,8 +130,12 @@ fn answer_case<'a>(case: &'a Case, notes: &'a mut [u8], out: &'a mut [u8]) -> Op
         b'r' => tell_read(input, notes),
         b'c' => {
             let (notes, values) = notes_and_values(case.argument, input)?;
-            let cleaned = message_write::write_clean(values, notes, out);
-            Answer::Cleaned(tell_written(cleaned.answer, out), cleaned.padded.to_bytes())
+            match message_write::write_clean(values, notes, out) {
+                Ok(cleaned) => {
+                    Answer::Cleaned(Written(out.get(..cleaned.length)), cleaned.padded.to_bytes())
+                }
+                Err(_) => Answer::Cleaned(Written(None), FieldSet::none().to_bytes()),
+            }
         }
         b'e' => {
             let (notes, values) = notes_and_values(case.argument, input)?;
@@ -146,12 +150,12 @@ fn answer_case<'a>(case: &'a Case, notes: &'a mut [u8], out: &'a mut [u8]) -> Op
         b't' => tell_check(validation_dates::check_time(input)),
         // Only the class is asked: 16.
         b'k' => match validation_field::field_fault(argument, input) {
-            refusal::CLASS_BROKEN => Answer::Refused,
+            Err(Cause::ClassBroken) => Answer::Refused,
             _ => Answer::Good,
         },
         b'f' => match validation_field::field_fault(argument, input) {
-            0 => Answer::Good,
-            fault => Answer::RefusedFor(usize::from(fault)),
+            Ok(()) => Answer::Good,
+            Err(cause) => Answer::RefusedFor(usize::from(cause.number())),
         },
         b'b' => Answer::Written(tell_written(encoding_bcd::encode(input, out), out)),
         b'u' => Answer::Written(tell_written(encoding_bcd::decode(input, argument, out), out)),
@@ -181,42 +185,42 @@ fn notes_and_values(fields: u8, input: &[u8]) -> Option<(&[u8], &[u8])> {
 
 fn tell_read<'a>(message: &'a [u8], notes: &'a mut [u8]) -> Answer<'a> {
     match message_reader::read(message, notes) {
-        ReadAnswer::Accepted { used, bitmaps } => Answer::Read {
+        Ok(Accepted { used, bitmaps }) => Answer::Read {
             used,
             bitmaps,
             message,
             notes,
         },
-        ReadAnswer::Refused(_) => Answer::Refused,
+        Err(_) => Answer::Refused,
     }
 }
 
-fn tell_written(answer: Output, out: &[u8]) -> Written<'_> {
+fn tell_written(answer: Result<usize, Refusal>, out: &[u8]) -> Written<'_> {
     match answer {
-        Output::Written(n) => Written(out.get(..n)),
-        Output::Refused(_) => Written(None),
+        Ok(n) => Written(out.get(..n)),
+        Err(_) => Written(None),
     }
 }
 
-fn tell_check<'a>(answer: Checked) -> Answer<'a> {
+fn tell_check<'a>(answer: Result<(), Refusal>) -> Answer<'a> {
     match answer {
-        Checked::Passed => Answer::Good,
-        Checked::Refused(_) => Answer::Refused,
+        Ok(()) => Answer::Good,
+        Err(_) => Answer::Refused,
     }
 }
 
 // Which field is missing, if one is.
-fn tell_required<'a>(answer: Checked) -> Answer<'a> {
+fn tell_required<'a>(answer: Result<(), Refusal>) -> Answer<'a> {
     match answer {
-        Checked::Passed => Answer::Good,
-        Checked::Refused(why) => Answer::RefusedFor(why.field),
+        Ok(()) => Answer::Good,
+        Err(why) => Answer::RefusedFor(why.field),
     }
 }
 
-fn tell_length<'a>(answer: Measured) -> Answer<'a> {
+fn tell_length<'a>(answer: Result<usize, Refusal>) -> Answer<'a> {
     match answer {
-        Measured::Length(n) => Answer::Length(n),
-        Measured::Refused(_) => Answer::Refused,
+        Ok(n) => Answer::Length(n),
+        Err(_) => Answer::Refused,
     }
 }
 
@@ -245,7 +249,7 @@ impl fmt::Display for Answer<'_> {
             } => {
                 write!(f, "used {used} bitmaps {bitmaps}")?;
                 for field in 2..65 {
-                    if let Found::At { .. } = message_lookup::look_up(message, notes, field) {
+                    if message_lookup::look_up(message, notes, field).is_ok() {
                         write!(
                             f,
                             " {field}={}",
