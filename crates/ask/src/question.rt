@@ -90,21 +90,15 @@ impl Question {
                 )
             }
             Self::LengthDecode(encoding, digits, bytes) => {
-                write!(
-                    to,
-                    "{}",
-                    measured(encoding_length::decode(&bytes, digits, encoding))
-                )
+                let answer = encoding_length::decode(&bytes, digits, encoding);
+                write!(to, "{}", measured(answer))
             }
             Self::IsOfClass(class, bytes) => {
                 write!(to, "{}", yes_or_no(field_class::is_of_class(class, &bytes)))
             }
             Self::Field(number, bytes) => {
-                write!(
-                    to,
-                    "{}",
-                    checked(validation_field::check_field(number, &bytes))
-                )
+                let answer = validation_field::check_field(number, &bytes);
+                write!(to, "{}", checked(answer))
             }
             Self::Pan(bytes) => write!(to, "{}", checked(validation_pan::check_pan(&bytes))),
             Self::Date(bytes) => write!(to, "{}", checked(validation_dates::check_date(&bytes))),
@@ -117,11 +111,8 @@ impl Question {
             }
             Self::LookUp(number, values, notes) => look_up(number, &values, &notes, to),
             Self::Required(values, notes) => {
-                write!(
-                    to,
-                    "{}",
-                    checked(validation_required::check_required(&values, &notes))
-                )
+                let answer = validation_required::check_required(&values, &notes);
+                write!(to, "{}", checked(answer))
             }
             Self::WriteExact(room, values, notes) => {
                 room.lend(
