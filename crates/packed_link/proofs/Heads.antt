@@ -1,7 +1,7 @@
 -- The head of a message in either script: the ends of its reader with the facts as the code has them, and what it means that a head is read.
 -- Assumes nothing.
 use Prim.Native.Nat.{ℕ, ◌+◌, ◌*◌, ◌-◌, ◌≤◌, ◌<◌}
-use mathlib.Core.Path.{◌≡◌, refl, sym, ap, ◌∙◌}
+use mathlib.Core.Path.{◌≡◌, refl, sym, ◌∙◌}
 use mathlib.Core.Bool.{true}
 use mathlib.Core.List.{List}
 use native.Mathlib.Nat.{add-sub_cancel_left}
@@ -12,10 +12,10 @@ use lib.Seq.{length-take-le}
 use borrow.Author.Tests.{lt-ltb, le-ltb, eq-eqb, eqb-true}
 use Rattle.std.specs.Prelude.{Result, Ok, Err}
 use Rattle.std.specs.Result.{is_ok}
-use Rattle.octets.specs.Lists.{all, lead, lay}
+use Rattle.octets.specs.Lists.{all, lead}
 use Rattle.octets.specs.Numbers.{is_digit, are_digits}
 use Rattle.octets.proofs.Cases.{by_lt, both_left, both_right, false_true}
-use Rattle.octets.proofs.Lists.{lead_all, lead_most, lay_length}
+use Rattle.octets.proofs.Lists.{lead_all, lead_most}
 use Rattle.refusal.specs.Numbers.{message_too_short}
 use Rattle.refusal.specs.Refusals.{refusal, plain, Test, good}
 use Rattle.refusal.specs.declared.Cause.{Cause}
@@ -23,7 +23,7 @@ use Rattle.refusal.specs.declared.Refusal.{Refusal}
 use Rattle.encoding_bcd.specs.Bcd.{is_bcd, spare_zero, decode_fault}
 use Rattle.encoding_bcd.proofs.Faults.{decode_good}
 use Rattle.bitmap.specs.Bitmaps.{fields_of}
-use Rattle.bitmap.proofs.Fields.{fields_few, fields_in_lem}
+use Rattle.bitmap.proofs.Fields.{fields_in_lem}
 use Rattle.bitmap_read.specs.Found.{maps_of, bitmaps_read}
 use Rattle.bitmap_read.proofs.Found.{FoundMaps, maps_least, maps_found, maps_read}
 use Rattle.packed_field.specs.declared.Script.{Script}
@@ -114,8 +114,10 @@ module _ (S : Script) (m : ℕ) (s : List ℕ) (k : ℕ) where
     pub head_mti : is_spelt S 4 x ≡ true
     head_mti = (head_found least e).mti
 
--- the fields that the code has listed are those of the bitmaps
-pub list_is : (s : List ℕ) (a k : ℕ) (fields : List ℕ) → k ≤ 3 → fields ≡ fields_of (take (a + 8 * k - a) (drop a s)) 3 → fields ≡ fields_of (maps_of a s k) k
+-- the fields that the code has listed are those of the bitmaps, of which the first starts at a
+pub list_is : (S : Script) (s : List ℕ) (k a : ℕ) (list fields : List ℕ) → link_head S 3 s ≡ Ok k → a ≡ size_of S 4 → list ≡ fields_of (take (a + 8 * k - a) (drop a s)) 3 → fields ≡ list
+    → fields ≡ fields_of (maps_of (size_of S 4) s k) k
 unfolding maps_of
-list_is s a k fields few e =
-    e ∙ rw (add-sub_cancel_left a (8 * k)) (fields_in_lem (take (8 * k) (drop a s)) k few (omega (arith, length-take (8 * k) (drop a s))))
+list_is S s k a list fields head sized e is =
+    let few = head_few S 3 s k (omega arith) head in
+    is ∙ e ∙ rw (← sized, add-sub_cancel_left a (8 * k)) (fields_in_lem (take (8 * k) (drop a s)) k few (omega (arith, length-take (8 * k) (drop a s))))

@@ -58,49 +58,19 @@ pub fn unpack(packed: &[u8], out: &mut [u8]) -> Result<Translated, Refusal>
 }
 
 impl Link<'_> {
-    // Carries a message in that script over into the other, by the table lent.
+    // Carries a message in that script over into the other, by the table lent: lists the fields that its bitmaps name, judges them, then writes.
     fn translate(&self, input: &[u8], out: &mut [u8]) -> Result<Translated, Refusal>
         ensures answers { result ≡ link_answer self.now.script (decoded self.now.table.now) 3 input.now out.old }
         ensures writes { out.new ≡ link_output self.now.script (decoded self.now.table.now) 3 input.now out.old }
     {
         let bitmaps = self.read_head(input)?;
-        self.translate_fields(input, bitmaps, out)
-    }
-
-    // The same behind a good head: lists the fields that its bitmaps name.
-    fn translate_fields(
-        &self,
-        input: &[u8],
-        bitmaps: usize,
-        out: &mut [u8],
-    ) -> Result<Translated, Refusal>
-        requires { link_head self.now.script 3 input.now ≡ Ok bitmaps }
-        ensures answers { result ≡ link_answer self.now.script (decoded self.now.table.now) 3 input.now out.old }
-        ensures writes { out.new ≡ link_output self.now.script (decoded self.now.table.now) 3 input.now out.old }
-    {
-        let start = packed_field::size_of(self.script, 4);
-        let end = start + 8 * bitmaps;
-        let list = bitmap::list_fields(&input[start..end]);
-        self.translate_listed(input, bitmaps, list.as_slice(), out)
-    }
-
-    // The same, with the numbers of the fields in hand: judges them, then writes.
-    fn translate_listed(
-        &self,
-        input: &[u8],
-        bitmaps: usize,
-        fields: &[u8],
-        out: &mut [u8],
-    ) -> Result<Translated, Refusal>
-        requires headed { link_head self.now.script 3 input.now ≡ Ok bitmaps }
-        requires listed { fields.now ≡ fields_of (maps_of (size_of self.now.script 4) input.now bitmaps) bitmaps }
-        ensures answers { result ≡ link_answer self.now.script (decoded self.now.table.now) 3 input.now out.old }
-        ensures writes { out.new ≡ link_output self.now.script (decoded self.now.table.now) 3 input.now out.old }
-    {
         let maps = 8 * bitmaps;
-        let start = packed_field::size_of(self.script, 4) + maps;
+        let start = packed_field::size_of(self.script, 4);
+        let end = start + maps;
+        let list = bitmap::list_fields(&input[start..end]);
+        let fields = list.as_slice();
         let before = packed_field::size_of(packed_field::other_script(self.script), 4) + maps;
-        let judged = self.judge_fields(input, start, before, fields)?;
+        let judged = self.judge_fields(input, end, before, fields)?;
         check_room(judged.written, out)?;
         self.write_message(input, bitmaps, fields, out);
         Ok(judged)
