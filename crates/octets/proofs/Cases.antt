@@ -1,10 +1,10 @@
 -- Going by cases on a test, with what the test says in hand. Assumes nothing.
 use Prim.Native.Nat.{ℕ, ◌<◌, ◌≤◌}
-use mathlib.Core.Path.{◌≡◌, refl, sym, ◌∙◌}
-use mathlib.Core.Bool.{Bool, true, false, not, cond}
+use mathlib.Core.Path.{◌≡◌, refl}
+use mathlib.Core.Bool.{Bool, true, false}
 use native.Mathlib.Omega.{arith}
 use lib.Dec.{ltb, leb, eqb}
-use borrow.Author.Tests.{ltb-true, ltb-false, leb-true, leb-false, eqb-true, eqb-false, not-true, not-false}
+use borrow.Author.Tests.{ltb-true, ltb-false, leb-true, leb-false, eqb-true, eqb-false}
 use Rattle.octets.specs.Lists.{both, either}
 
 pub false_true : false ≡ true → ⊥
@@ -37,28 +37,3 @@ both_left false b t = t
 pub both_right : (a b : Bool) → both a b ≡ true → b ≡ true
 both_right true b t = t
 both_right false b t = absurd (false_true t)
-
--- a test that a call made, and the branch on its negation
-pub tested_true : (flag good : Bool) → flag ≡ good → not flag ≡ false → good ≡ true
-tested_true flag good e g = sym e ∙ not-false flag g
-
-pub tested_false : (flag good : Bool) → flag ≡ good → not flag ≡ true → good ≡ false
-tested_false flag good e g = sym e ∙ not-true flag g
-
--- the two ends of a function that tests one thing and then another
-pub either_left : (flag a b : Bool) → flag ≡ a → flag ≡ true → true ≡ either a b
-either_left flag a b e t = rw (← e, t)
-
-pub either_right : (flag a b r : Bool) → flag ≡ a → flag ≡ false → r ≡ b → r ≡ either a b
-either_right flag a b r e t h = rw (← e, t) h
-
-pub both_fails : (flag a b : Bool) → flag ≡ a → not flag ≡ true → false ≡ both a b
-both_fails flag a b e t = rw (← e, not-true flag t)
-
-pub both_goes : (flag a b r : Bool) → flag ≡ a → not flag ≡ false → r ≡ b → r ≡ both a b
-both_goes flag a b r e t h = rw (← e, not-false flag t) h
-
--- a test that gives no fault was passed, and so were those behind it
-pub passed : (good : Bool) (rest bad : ℕ) → 0 < bad → cond good rest bad ≡ 0 → (good ≡ true) × (rest ≡ 0)
-passed true rest bad h e = (refl, e)
-passed false rest bad h e = absurd (omega arith)

@@ -7,7 +7,7 @@ use native.Mathlib.Nat.{le_antisymm, le_of_suc-le-suc, not-suc-le-zero}
 use native.Mathlib.Numerals.{add-one}
 use native.Mathlib.Omega.{arith}
 use lib.ListN.{length, take, drop, get_or, set, length-append, length-drop, drop_of_length-le}
-use lib.Seq.{drop-cons, take-length, drop-length, length-take-le}
+use lib.Seq.{take-length, length-take-le}
 use denote.Ref.{Bor}
 use denote.Param.Members.{Mut}
 use Rattle.std.proofs.Common.{Iter}
@@ -23,7 +23,7 @@ use Rattle.std.proofs.lemmas.Iterator.Consumers.{count_from_yields_List}
 use Rattle.std.proofs.lemmas.Iterator.Search.{all_from_yields_List, YieldsList-from_take_while}
 use lib.Dec.{eqb, leb, eqb-suc-suc}
 use borrow.Author.Tests.{le-leb, lt-leb, leb-true, ne_eqb}
-use Rattle.octets.specs.Lists.{both, between, all, lead, lay, placed}
+use Rattle.octets.specs.Lists.{between, all, lead, lay, placed}
 use Rattle.octets.proofs.Cases.{by_bool, both_left, both_right}
 
 -- between as facts
@@ -107,26 +107,6 @@ placed_length r d =
     (λ t. rw t (lay_length r d (leb-true (length r) (length d) t)))
     (λ t. rw t)
 
--- A test of every element, from i on
-pub all_drop : (p : ℕ → Bool) (s : List ℕ) (i : ℕ) → i < length s → all p (drop i s) ≡ both (p (get_or s i 0)) (all p (drop (i + 1) s))
-all_drop p s i h = rw (add-one, drop-cons s i 0)
-
-pub all_end : (p : ℕ → Bool) (s : List ℕ) (i : ℕ) → length s ≤ i → all p (drop i s) ≡ true
-all_end p [] zero h = refl
-all_end p [] (suc i) h = refl
-all_end p (x ∷ s) zero h = absurd (not-suc-le-zero h)
-all_end p (x ∷ s) (suc i) h = all_end p s i (le_of_suc-le-suc h)
-
--- a loop that tests each element: so far the whole test is the test of the rest
-pub all_next : (p : ℕ → Bool) (s : List ℕ) (i : ℕ) → all p s ≡ all p (drop i s) → i < length s → p (get_or s i 0) ≡ true → all p s ≡ all p (drop (i + 1) s)
-all_next p s i e h t = e ∙ all_drop p s i h ∙ rw t
-
-pub all_false : (p : ℕ → Bool) (s : List ℕ) (i : ℕ) → all p s ≡ all p (drop i s) → i < length s → p (get_or s i 0) ≡ false → false ≡ all p s
-all_false p s i e h t = sym (e ∙ all_drop p s i h ∙ rw t)
-
-pub all_true : (p : ℕ → Bool) (s : List ℕ) (i : ℕ) → all p s ≡ all p (drop i s) → length s ≤ i → true ≡ all p s
-all_true p s i e h = sym (e ∙ all_end p s i h)
-
 -- what a test of every element says of one
 pub all_at : (p : ℕ → Bool) (s : List ℕ) (i : ℕ) → all p s ≡ true → i < length s → p (get_or s i 0) ≡ true
 all_at p [] i t h = absurd (not-suc-le-zero h)
@@ -146,20 +126,6 @@ all_same p q (x ∷ s) h = rw (h 0 (omega arith), all_same p q s (λ i l. h (suc
 pub all_append : (p : ℕ → Bool) (s t : List ℕ) → all p s ≡ true → all p t ≡ true → all p (s ++ t) ≡ true
 all_append p [] t a b = b
 all_append p (x ∷ s) t a b = rw (both_left (p x) (all p s) a) (all_append p s t (both_right (p x) (all p s) a) b)
-
--- The length of a front that passes a test, from i on
-module _ (p : ℕ → Bool) (s : List ℕ) (i : ℕ) (so_far : lead p s ≡ i + lead p (drop i s)) where
-  pub lead_next : i < length s → p (get_or s i 0) ≡ true → lead p s ≡ (i + 1) + lead p (drop (i + 1) s)
-  lead_next h t = so_far ∙ rw (drop-cons s i 0 h, t, add-one) (omega arith)
-
-  pub lead_stops : i < length s → p (get_or s i 0) ≡ false → i ≡ lead p s
-  lead_stops h t = sym (so_far ∙ rw (drop-cons s i 0 h, t) (omega arith))
-
-  pub lead_ends : i ≤ length s → length s ≤ i → i ≡ lead p s
-  lead_ends h k =
-      let e : i ≡ length s = le_antisymm h k in
-      let z : lead p (drop i s) ≡ 0 = rw (e, drop-length s) in
-      omega (arith, so_far, z)
 
 pub lead_most : (p : ℕ → Bool) (s : List ℕ) → lead p s ≤ length s
 lead_most p [] = omega arith

@@ -1,18 +1,18 @@
 -- Numbers and their digits, over the base and the width. Assumes nothing.
 use Prim.Native.Nat.{ℕ, zero, suc, ◌+◌, ◌-◌, ◌*◌, ◌/◌, ◌%◌, ◌^◌, ◌≤◌, ◌<◌}
 use mathlib.Core.Path.{◌≡◌, refl, sym, ◌∙◌}
-use mathlib.Core.Bool.{Bool, true, false, not, cond}
+use mathlib.Core.Bool.{true, cond}
 use mathlib.Core.List.{List, [], ◌∷◌, ◌++◌, append_assoc, append-nil}
 use native.Mathlib.Omega.{arith}
 use native.Mathlib.Numerals.{add-one}
 use native.Mathlib.Nat.{add-zero, zero-add, mod-lt, mod-eq_of_lt, div-add-mod', div-eq_of_lt, mul-add-mod_self_right, mul-add-div_right, div-lt_iff_lt-mul, pow-zero, pow-suc, pow-le-pow_right, mul-le-mul_left, mul-le-mul_right, lt_of_mul-lt-mul_right}
 use lib.ListN.{length, take, drop, get_or, set, length-append, length-take, drop_of_length-le}
 use lib.Seq.{drop-cons, drop_at, set_split, length-take-le}
-use lib.Dec.{eqb, leb}
-use borrow.Author.Tests.{eqb-true, le-leb}
+use lib.Dec.{leb}
+use borrow.Author.Tests.{le-leb}
 use Rattle.octets.specs.Lists.{between, all, lay}
-use Rattle.octets.specs.Numbers.{digits, number, is_digit, are_digits}
-use Rattle.octets.proofs.Cases.{both_left, both_right, tested_true}
+use Rattle.octets.specs.Numbers.{digits, number}
+use Rattle.octets.proofs.Cases.{both_left, both_right}
 use Rattle.octets.proofs.Lists.{is_between, between_low, between_high, all_append}
 
 pub digits_length : (b z w n : ℕ) → length (digits b z w n) ≡ w
@@ -28,15 +28,6 @@ digits_between b z hi (suc w) n h k =
     let l : n % b < b = mod-lt n h in
     all_append (between z hi) (digits b z w (n / b)) ((z + n % b) ∷ []) (digits_between b z hi w (n / b) h k)
     (rw (is_between z hi (z + n % b) (omega arith) (omega arith)))
-
--- So many digits, by the length and then each byte.
-module _ (n : ℕ) (s : List ℕ) where
-  -- so many digits are so many bytes
-  pub are_digits_room : (flag : Bool) → flag ≡ are_digits n s → not flag ≡ false → (k : ℕ) → k ≤ n → k ≤ length s
-  unfolding are_digits
-  are_digits_room flag e t k h =
-      let d : length s ≡ n = eqb-true (length s) n (both_left (eqb (length s) n) (all is_digit s) (tested_true flag _ e t)) in
-      omega (arith, d, h)
 
 -- Storing the last digit first: one byte stored behind A, and then A, is both.
 store_behind : (A l : List ℕ) (x i : ℕ) → length A ≡ i → i < length l → lay (A ++ (x ∷ [])) l ≡ lay A (set l i x)
