@@ -29,24 +29,26 @@ pub struct Item {
     pub carried: usize,
 }
 
-// The other script.
-pub fn other_script(script: Script) -> Script
-    ensures { result ≡ other script }
-{
-    match script {
-        Script::Plain => Script::Packed,
-        Script::Packed => Script::Plain,
+impl Script {
+    // The other script.
+    pub fn other(self) -> Script
+        ensures { result ≡ other self }
+    {
+        match self {
+            Script::Plain => Script::Packed,
+            Script::Packed => Script::Plain,
+        }
     }
-}
 
-// How many bytes so many digits take.
-#[tactic(auto, unfolding(crate::specs::Scripts::size_of))]
-pub fn size_of(script: Script, digits: usize) -> usize
-    ensures { result ≡ size_of script digits }
-{
-    match script {
-        Script::Plain => digits,
-        Script::Packed => encoding_bcd::bytes_of(digits),
+    // How many bytes so many digits take.
+    #[tactic(auto, unfolding(crate::specs::Scripts::size_of))]
+    pub fn size_of(self, digits: usize) -> usize
+        ensures { result ≡ size_of self digits }
+    {
+        match self {
+            Script::Plain => digits,
+            Script::Packed => encoding_bcd::bytes_of(digits),
+        }
     }
 }
 
@@ -126,7 +128,7 @@ fn place_by(
     requires most_bound { most ≤ 1023 }
     ensures { result ≡ place_by script width most class rest.now }
 {
-    let start = size_of(script, width);
+    let start = script.size_of(width);
     if rest.len() < start {
         return Err(Cause::PastTheEnd);
     }
@@ -142,8 +144,8 @@ fn place_by(
     if rest.len() - start < size {
         return Err(Cause::PastTheEnd);
     }
-    let across = other_script(script);
-    let carried = size_of(across, width) + content_size(across, class, count);
+    let across = script.other();
+    let carried = across.size_of(width) + content_size(across, class, count);
     Ok(Item {
         start,
         count,
@@ -177,7 +179,7 @@ fn content_size(script: Script, class: Class, count: usize) -> usize
     ensures { result ≡ content_size script class count }
 {
     if is_numeric(class) {
-        return size_of(script, count);
+        return script.size_of(count);
     }
     count
 }

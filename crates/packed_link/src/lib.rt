@@ -65,11 +65,11 @@ impl Link<'_> {
     {
         let bitmaps = self.read_head(input)?;
         let maps = 8 * bitmaps;
-        let start = packed_field::size_of(self.script, 4);
+        let start = self.script.size_of(4);
         let end = start + maps;
         let list = bitmap::list_fields(&input[start..end]);
         let fields = list.as_slice();
-        let before = packed_field::size_of(packed_field::other_script(self.script), 4) + maps;
+        let before = self.script.other().size_of(4) + maps;
         let judged = self.judge_fields(input, end, before, fields)?;
         check_room(judged.written, out)?;
         self.write_message(input, bitmaps, fields, out);
@@ -80,7 +80,7 @@ impl Link<'_> {
     fn read_head(&self, input: &[u8]) -> Result<usize, Refusal>
         ensures { result ≡ link_head self.now.script 3 input.now }
     {
-        let start = packed_field::size_of(self.script, 4);
+        let start = self.script.size_of(4);
         if input.len() < start + 8 {
             return Err(Cause::MessageTooShort.into());
         }
@@ -127,11 +127,11 @@ impl Link<'_> {
         requires judged { (d : Translated) × ((body_judged self.now.script (decoded self.now.table.now) input.now bitmaps ≡ Ok d) × (d.written ≤ length out.old)) }
         ensures { out.new ≡ lay (body_carried self.now.script (decoded self.now.table.now) input.now bitmaps) out.old }
     {
-        let start = packed_field::size_of(self.script, 4);
+        let start = self.script.size_of(4);
         let maps = 8 * bitmaps;
         let end = start + maps;
         packed_field::carry(&input[..start], self.script, 4, out);
-        let first = packed_field::size_of(packed_field::other_script(self.script), 4);
+        let first = self.script.other().size_of(4);
         octets::put(&input[start..end], &mut out[first..]);
         let behind = first + maps;
         self.write_fields(input, end, fields, &mut out[behind..]);
@@ -167,7 +167,7 @@ impl Link<'_> {
     {
         let width = field_table::width_in(self.table, number);
         packed_field::carry(&rest[..item.start], self.script, width, out);
-        let first = packed_field::size_of(packed_field::other_script(self.script), width);
+        let first = self.script.other().size_of(width);
         let class = field_table::class_in(self.table, number);
         let end = item.start + item.size;
         carry_content(

@@ -29,4 +29,4 @@ overflow_add-carried c = omega (arith, across_small _ _ _ _ _ _ _ c.requires.wid
 
 pub returns : goal.returns
 returns c = place_found _ _ _ _ _ _ c.size_of-start.ensures c.if-rest-start.false _ c.is_spelt.ensures c.if-not-is_spelt.false _ c.content_count-count.ensures
-    c.if-most-count.false _ c.content_size-size.ensures _ c.other_script-across.ensures _ _ c.size_of.ensures c.content_size.ensures c.if-rest-start-2.false
+    c.if-most-count.false _ c.content_size-size.ensures _ c.other-across.ensures _ _ c.size_of.ensures c.content_size.ensures c.if-rest-start-2.false

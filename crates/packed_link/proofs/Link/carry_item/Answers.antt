@@ -18,7 +18,7 @@ pub slice_bounds-carry_content-count-2 : goal.slice_bounds-carry_content-count-2
 slice_bounds-carry_content-count-2 c = omega (
   arith,
   (first_left _ _ _ _ _ c.requires.judged _ _ _ _ c.width_in-width.ensures.value
-      c.other_script.ensures c.size_of-first.ensures c.class_in-class.ensures),
+      c.other.ensures c.size_of-first.ensures c.class_in-class.ensures),
   c.requires.room,
   c.out-1.given,
 )
@@ -27,7 +27,7 @@ pub slice_bounds-carry_content-start-2 : goal.slice_bounds-carry_content-start-2
 slice_bounds-carry_content-start-2 c = omega (
   arith,
   (first_left _ _ _ _ _ c.requires.judged _ _ _ _ c.width_in-width.ensures.value
-      c.other_script.ensures c.size_of-first.ensures c.class_in-class.ensures),
+      c.other.ensures c.size_of-first.ensures c.class_in-class.ensures),
   c.requires.room,
   c.out-1.given,
 )
@@ -40,7 +40,7 @@ carry_content-requires c = let q = content_asked _ _ _ _ _ c.requires.judged _ c
       room = omega (
         arith,
         (first_left _ _ _ _ _ c.requires.judged _ _ _ _ c.width_in-width.ensures.value
-            c.other_script.ensures c.size_of-first.ensures c.class_in-class.ensures),
+            c.other.ensures c.size_of-first.ensures c.class_in-class.ensures),
         c.requires.room,
         c.out-1.given,
         c.carry_content-arg-2-1.given,
@@ -49,4 +49,4 @@ carry_content-requires c = let q = content_asked _ _ _ _ _ c.requires.judged _ c
 
 pub returns : goal.returns
 returns c = item_carried_lem _ _ _ _ _ c.requires.judged _ _ _ _ _ _ _ c.requires.room c.width_in-width.ensures.value
-    c.other_script.ensures c.size_of-first.ensures c.class_in-class.ensures c.carry.ensures c.carry_content.ensures
+    c.other.ensures c.size_of-first.ensures c.class_in-class.ensures c.carry.ensures c.carry_content.ensures

@@ -24,27 +24,27 @@ pub slice_bounds-list_fields-end : goal.slice_bounds-list_fields-end
 slice_bounds-list_fields-end c = omega (arith, head_room _ _ _ _ (omega arith) (sym c.in_ok-bitmaps.ensures), c.size_of-start.ensures)
 
 pub overflow_add-before : goal.overflow_add-before
-overflow_add-before c = omega (arith, head_few _ _ _ _ (omega arith) (sym c.in_ok-bitmaps.ensures), mti_small c.other_script.result, c.size_of.ensures)
+overflow_add-before c = omega (arith, head_few _ _ _ _ (omega arith) (sym c.in_ok-bitmaps.ensures), mti_small c.other.result, c.size_of.ensures)
 
 pub judge_fields-requires : goal.judge_fields-requires
 judge_fields-requires c =
     let few = head_few _ _ _ _ (omega arith) (sym c.in_ok-bitmaps.ensures) in
     record {
       start_in_bounds = omega (arith, head_room _ _ _ _ (omega arith) (sym c.in_ok-bitmaps.ensures), c.size_of-start.ensures);
-      before_bound = omega (arith, few, mti_small c.other_script.result, c.size_of.ensures);
+      before_bound = omega (arith, few, mti_small c.other.result, c.size_of.ensures);
       few = omega (arith, few, ap length (list_is _ _ _ _ _ _ (sym c.in_ok-bitmaps.ensures) c.size_of-start.ensures c.list_fields-list.ensures c.as_slice-fields.ensures), fields_few (maps_of (size_of c.args.self.now.script 4) c.args.input.now c.in_ok-bitmaps.bitmaps) c.in_ok-bitmaps.bitmaps 3 (omega arith) few);
     }
 
 pub returns-in_err-judged : goal.returns-in_err-judged
 returns-in_err-judged c =
     let listed = list_is _ _ _ _ _ _ (sym c.in_ok-bitmaps.ensures) c.size_of-start.ensures c.list_fields-list.ensures c.as_slice-fields.ensures in
-    let e = ends_refused _ _ _ _ _ _ (sym c.in_ok-bitmaps.ensures) c.from_residual-in_err-judged.ensures.1 (body_said _ (decoded c.args.self.now.table.now) _ _ _ listed _ _ _ _ c.size_of-start.ensures c.other_script.ensures c.size_of.ensures c.in_err-judged.ensures) in
+    let e = ends_refused _ _ _ _ _ _ (sym c.in_ok-bitmaps.ensures) c.from_residual-in_err-judged.ensures.1 (body_said _ (decoded c.args.self.now.table.now) _ _ _ listed _ _ _ _ c.size_of-start.ensures c.other.ensures c.size_of.ensures c.in_err-judged.ensures) in
     record { answers = e.answer; writes = e.output }
 
 pub returns-in_err-check_room : goal.returns-in_err-check_room
 returns-in_err-check_room c =
     let listed = list_is _ _ _ _ _ _ (sym c.in_ok-bitmaps.ensures) c.size_of-start.ensures c.list_fields-list.ensures c.as_slice-fields.ensures in
-    let e = ends_short _ _ _ _ _ _ (sym c.in_ok-bitmaps.ensures) _ (body_said _ (decoded c.args.self.now.table.now) _ _ _ listed _ _ _ _ c.size_of-start.ensures c.other_script.ensures c.size_of.ensures c.in_ok-judged.ensures) c.from_residual-in_err-check_room.ensures.1 c.in_err-check_room.ensures in
+    let e = ends_short _ _ _ _ _ _ (sym c.in_ok-bitmaps.ensures) _ (body_said _ (decoded c.args.self.now.table.now) _ _ _ listed _ _ _ _ c.size_of-start.ensures c.other.ensures c.size_of.ensures c.in_ok-judged.ensures) c.from_residual-in_err-check_room.ensures.1 c.in_err-check_room.ensures in
     record { answers = e.answer; writes = e.output }
 
 pub write_message-requires : goal.write_message-requires
@@ -53,11 +53,11 @@ write_message-requires c =
     record {
       headed = (sym c.in_ok-bitmaps.ensures);
       listed = listed;
-      judged = (_, ((body_said _ (decoded c.args.self.now.table.now) _ _ _ listed _ _ _ _ c.size_of-start.ensures c.other_script.ensures c.size_of.ensures c.in_ok-judged.ensures), fits _ _ c.in_ok-check_room.ensures));
+      judged = (_, ((body_said _ (decoded c.args.self.now.table.now) _ _ _ listed _ _ _ _ c.size_of-start.ensures c.other.ensures c.size_of.ensures c.in_ok-judged.ensures), fits _ _ c.in_ok-check_room.ensures));
     }
 
 pub returns : goal.returns
 returns c =
     let listed = list_is _ _ _ _ _ _ (sym c.in_ok-bitmaps.ensures) c.size_of-start.ensures c.list_fields-list.ensures c.as_slice-fields.ensures in
-    let e = ends_done _ _ _ _ _ _ (sym c.in_ok-bitmaps.ensures) _ (body_said _ (decoded c.args.self.now.table.now) _ _ _ listed _ _ _ _ c.size_of-start.ensures c.other_script.ensures c.size_of.ensures c.in_ok-judged.ensures) refl (fits _ _ c.in_ok-check_room.ensures) _ c.write_message.ensures in
+    let e = ends_done _ _ _ _ _ _ (sym c.in_ok-bitmaps.ensures) _ (body_said _ (decoded c.args.self.now.table.now) _ _ _ listed _ _ _ _ c.size_of-start.ensures c.other.ensures c.size_of.ensures c.in_ok-judged.ensures) refl (fits _ _ c.in_ok-check_room.ensures) _ c.write_message.ensures in
     record { answers = e.answer; writes = e.output }
