@@ -1,27 +1,26 @@
 -- The ends of the writers' routines, with the facts as the code has them. Assumes nothing.
 use Prim.Native.Nat.{ℕ, zero, suc, ◌+◌, ◌-◌, ◌*◌, ◌≤◌, ◌<◌, min}
-use mathlib.Core.Path.{◌≡◌, refl, sym, ap, ◌∙◌}
+use mathlib.Core.Path.{◌≡◌, refl, sym, ap, subst, ◌∙◌}
 use mathlib.Core.Bool.{Bool, cond}
 use mathlib.Core.List.{List, [], ◌∷◌, ◌++◌, append_assoc}
 use native.Mathlib.Omega.{arith}
 use lib.Dec.{leb}
-use lib.ListN.{length, take, drop, replicate, length-append, length-replicate}
+use lib.ListN.{length, take, replicate, length-append, length-replicate}
 use lib.Seq.{length-take-le}
 use borrow.Author.Tests.{eq-eqb, ne_eqb, le-leb, lt-leb}
 use borrow.Rule.Slice.PartMut.{mid_of, put_mid}
+use Rattle.std.specs.Prelude.{Result, Ok, Err}
 use Rattle.octets.specs.Lists.{lay, placed}
 use Rattle.octets.proofs.Lists.{placed_short, placed_fits}
 use Rattle.octets.proofs.Parts.{lay_part, placed_part}
 use Rattle.refusal.specs.Numbers.{end_differs, output_too_short}
-use Rattle.refusal.specs.Refusals.{refusal, told}
+use Rattle.refusal.specs.Refusals.{refusal, good}
 use Rattle.refusal.specs.declared.Refusal.{Refusal}
-use Rattle.refusal.specs.declared.Output.{Output}
-use Rattle.refusal.specs.declared.Output.TheVariants.{Written, Refused}
 use Rattle.field_table.specs.Table.{Table}
 use Rattle.field_table.proofs.Rows.{Bounded}
 use Rattle.field_write.specs.Fields.{exact_fault}
 use Rattle.bitmap.specs.Bits.{bytes_of}
-use Rattle.bitmap.specs.Bitmaps.{map_bit, maps_for, set_of, no_fields}
+use Rattle.bitmap.specs.Bitmaps.{map_bit, maps_for, set_of}
 use Rattle.message_language.specs.Language.{Entry}
 use Rattle.message_contents.specs.Contents.{content_of, contents_in, numbers_of, bitmaps_with, message_with, cleaned_in, short_in}
 use Rattle.message_contents.proofs.Cleaning.{contents_numbers, cleaned_numbers, exact_whole}
@@ -29,35 +28,15 @@ use Rattle.message_notes.specs.Dialect.{plain_form, head_size, Dialect, dialect}
 use Rattle.message_notes.specs.Notes.{mti_in, count_in}
 use Rattle.message_walk.specs.declared.Rule.{Rule}
 use Rattle.message_walk.specs.declared.Rule.TheVariants.{Exact, Clean}
-use Rattle.message_walk.specs.declared.Walked.{Walked}
-use Rattle.message_walk.specs.declared.Walked.TheVariants.{Ended, Refused as WalkRefused}
-use Rattle.message_walk.specs.Walk.{Fault, head_number, ending, walked, entries_in, fields_on, listed_in}
+use Rattle.message_walk.specs.declared.Ended.{Ended}
+use Rattle.message_walk.specs.Walk.{Fault, walked, entries_in, listed_in}
 use Rattle.message_walk.specs.Faults.{asked, within, fault_by}
-use Rattle.message_walk.proofs.Ends.{walk_head, walk_ended}
 use Rattle.message_walk.proofs.Heads.{Head, ended_head, good_head}
 use Rattle.message_walk.proofs.Naming.{AllGood, entries_good}
 use Rattle.message_walk.proofs.Weaker.{walked_listed, weaker_entries}
 use Rattle.message_walk.proofs.Within.{is_inside, within_weaker}
-use Rattle.message_write.specs.Written.{exactly, cleanly, exact_message, clean_message, answered, laid_out, exact_answer, exact_output, clean_answer, clean_output, padded_on, clean_padded, body_of, message_of, entries_by, answer_by, output_by, padded_by, size_in, short_on, size_on}
+use Rattle.message_write.specs.Written.{exactly, cleanly, exact_message, clean_message, answered, laid_out, exact_answer, exact_output, clean_answer, clean_output, padded_on, clean_padded, body_of, message_of, entries_by, answer_by, output_by, padded_by, Asked, Sums, size_in}
 use Rattle.message_write.proofs.Writing.{body_size, cleared}
-
--- `name_padded`
-module _ (o : Output) (s : List ℕ) where
-  pub padded_none : (r : Refusal) → o ≡ Refused r → no_fields ≡ padded_on o s
-  unfolding padded_on
-  padded_none r e = rw e
-
-  pub padded_some : (k : ℕ) → o ≡ Written k → s ≡ padded_on o s
-  unfolding padded_on
-  padded_some k e = rw e
-
--- `weigh`: a bad head, and else what the fields gave
-module _ (t : Table) (p : Fault) (n : List ℕ) (fault : ℕ) (found : fault ≡ head_number 3 n) where
-  pub weigh_head : (fault ≡ 0 → ⊥) → (w : Walked) → w ≡ WalkRefused (refusal fault 0 0) → w ≡ walked (dialect t) p n
-  weigh_head h w e = e ∙ walk_head (dialect t) p n fault found h
-
-  pub weigh_ended : (w : Walked) → fault ≡ 0 → w ≡ ending plain_form p (count_in n) (length n) 0 head_size (drop head_size n) → w ≡ walked (dialect t) p n
-  weigh_ended w h e = walk_ended (dialect t) p n fault found w h e
 
 -- sizes
 bytes_long : (p : ℕ → Bool) (k f : ℕ) → length (bytes_of p k f) ≡ k
@@ -89,48 +68,34 @@ message_long t v mti m es four h =
     ∙ omega (arith, length-append mti (bitmaps_with m (numbers_of es) ++ body_of t v es), length-append (bitmaps_with m (numbers_of es)) (body_of t v es), bitmaps_long m (numbers_of es) h)
 
 -- `write_ended`
-module _ (at u : ℕ) (bytes d : List ℕ) (k : ℕ) (sized : length bytes ≡ k) where
-  pub ended_differs : (u ≡ k → ⊥) → Refused (refusal end_differs 0 at) ≡ answered (Ended at u) bytes d
+module _ (x : Ended) (bytes d : List ℕ) (k : ℕ) (sized : length bytes ≡ k) where
+  pub ended_differs : (r : Refusal) → (x.said ≡ k → ⊥) → r ≡ refusal end_differs 0 x.at → Err r ≡ answered (Ok x) bytes d
   unfolding answered
-  ended_differs h = rw (sized, ne_eqb u k h)
+  ended_differs r h e = rw (sized, ne_eqb x.said k h, e)
 
-  pub differs_left : (u ≡ k → ⊥) → d ≡ laid_out (Ended at u) bytes d
+  pub differs_left : (x.said ≡ k → ⊥) → d ≡ laid_out (Ok x) bytes d
   unfolding laid_out
-  differs_left h = rw (sized, ne_eqb u k h)
+  differs_left h = rw (sized, ne_eqb x.said k h)
 
-  module _ (same : u ≡ k) where
-    pub ended_short : length d < k → Refused (refusal output_too_short 0 at) ≡ answered (Ended at u) bytes d
+  module _ (same : x.said ≡ k) where
+    pub ended_short : (r : Refusal) → length d < k → r ≡ refusal output_too_short 0 x.at → Err r ≡ answered (Ok x) bytes d
     unfolding answered
-    ended_short h = rw (sized, eq-eqb u k same, lt-leb k (length d) h)
+    ended_short r h e = rw (sized, eq-eqb x.said k same, lt-leb k (length d) h, e)
 
-    pub short_left : length d < k → d ≡ laid_out (Ended at u) bytes d
+    pub short_left : length d < k → d ≡ laid_out (Ok x) bytes d
     unfolding laid_out
-    short_left h = rw (sized, eq-eqb u k same) (placed_short bytes d k sized h)
+    short_left h = rw (sized, eq-eqb x.said k same) (placed_short bytes d k sized h)
 
-    pub ended_written : k ≤ length d → Written k ≡ answered (Ended at u) bytes d
+    pub ended_written : k ≤ length d → Ok k ≡ answered (Ok x) bytes d
     unfolding answered
-    ended_written h = rw (sized, eq-eqb u k same, le-leb k (length d) h)
+    ended_written h = rw (sized, eq-eqb x.said k same, le-leb k (length d) h)
 
-    pub written_laid : (o : List ℕ) → k ≤ length d → o ≡ lay bytes d → o ≡ laid_out (Ended at u) bytes d
+    pub written_laid : (o : List ℕ) → k ≤ length d → o ≡ lay bytes d → o ≡ laid_out (Ok x) bytes d
     unfolding laid_out
-    written_laid o h e = rw (sized, eq-eqb u k same) (e ∙ sym (placed_fits bytes d k sized h))
+    written_laid o h e = rw (sized, eq-eqb x.said k same) (e ∙ sym (placed_fits bytes d k sized h))
 
--- what `write_ended` and `write_message` are asked of the values v and the notes n: a good head, contents that may be written, and the set of
--- the fields that the notes name
-pub record Asked (t : Table) (v n s : List ℕ) : Type 0 where
-  pub head : head_number 3 n ≡ 0
-  pub clean : listed_in plain_form n ≡ entries_by t v Clean n
-  pub named : s ≡ set_of (numbers_of (listed_in plain_form n))
-
-pub asked_of :
-    {t : Table} {v n s : List ℕ} →
-    head_number 3 n ≡ 0 →
-    listed_in plain_form n ≡ entries_by t v Clean n →
-    s ≡ set_of (numbers_of (listed_in plain_form n)) →
-    Asked t v n s
-asked_of head clean named = record { head = head; clean = clean; named = named }
-
-module _ (t : Table) (v n s : List ℕ) (asked : Asked t v n s) where
+-- `write_ended` and `write_message`, where their message may be written
+module _ {t : Table} {v n s : List ℕ} (asked : Asked t v n s) where
   abbrev m : ℕ
   m = count_in n
 
@@ -143,12 +108,15 @@ module _ (t : Table) (v n s : List ℕ) (asked : Asked t v n s) where
   pub asked_long : length (message_of t v (mti_in n) m es) ≡ 4 + 8 * m + length (body_of t v es)
   asked_long = message_long t v (mti_in n) m es asked_head.four asked_head.three
 
-  pub asked_size : Bounded t → (size : ℕ) → size ≡ size_in t es → length (message_of t v (mti_in n) m es) ≡ 4 + 8 * m + size
-  asked_size small size e = omega (arith, asked_long, e, body_size t v m es small (cleared t v n es asked.clean))
+  pub asked_size : Bounded t → {k size : ℕ} → k ≡ m → size ≡ size_in t es → length (message_of t v (mti_in n) m es) ≡ 4 + 8 * k + size
+  asked_size small {k} {size} counted e = omega (arith, asked_long, counted, e, body_size t v m es small (cleared t v n es asked.clean))
 
   -- the count is k, and the output d bytes long
-  pub asked_room : (k d : ℕ) → k ≡ m → length (message_of t v (mti_in n) m es) ≤ d → (k ≤ 3) × (4 + 8 * k + length (body_of t v es) ≤ d)
-  asked_room k d counted room = (omega (arith, asked_head.three), omega (arith, asked_long))
+  pub asked_few : {k : ℕ} → k ≡ m → k ≤ 3
+  asked_few {k} counted = omega (arith, asked_head.three)
+
+  pub asked_room : {k d : ℕ} → k ≡ m → length (message_of t v (mti_in n) m es) ≤ d → (k ≤ 3) × (4 + 8 * k + length (body_of t v es) ≤ d)
+  asked_room {k} {d} counted room = (omega (arith, asked_head.three), omega (arith, asked_long))
 
   -- the count is k, mti is the MTI's part of the notes, and maps are the bitmaps made for the set s
   module _ (k : ℕ) (counted : k ≡ m) (mti : List ℕ) (part : mti ≡ cond (leb head_size (length n)) (mti_in n) []) (maps : List ℕ) (made : maps ≡ maps_for (min k 3) s) where
@@ -180,58 +148,47 @@ module _ (t : Table) (v n s : List ℕ) (asked : Asked t v n s) where
         lay_part (mti_in n ++ b) (body_of t v es) d _ g (4 + 8 * k) front (omega (arith, length-append (mti_in n) b, four, long, counted)) hg
         ∙ ap (λ (x : List ℕ). lay x d) (append_assoc (mti_in n) b (body_of t v es) ∙ sym (message_parts t v (mti_in n) m es))
 
--- `write_by`: w is how the walk ended, s, q and size are what it gathered
-module _ (t : Table) (r : Rule) (v n : List ℕ) (w : Walked) (e : w ≡ walked (dialect t) (fault_by t v r) n) where
-  module _ (d : List ℕ) (x : Refusal) (h : w ≡ WalkRefused x) where
-    pub by_refused : Refused x ≡ answer_by t v r n d
+-- `write_by`
+module _ (t : Table) (r : Rule) (v n d : List ℕ) where
+  -- a walk that is refused
+  module _ {x : Refusal} (e : Err x ≡ walked (dialect t) (fault_by t v r) n) where
+    pub by_refused : Err x ≡ answer_by t v r n d
     unfolding answer_by answered
-    by_refused = rw (answer_by, ← e, h)
+    by_refused = rw (answer_by, ← e)
 
     pub refused_left : d ≡ output_by t v r n d
     unfolding output_by laid_out
-    refused_left = rw (output_by, ← e, h)
+    refused_left = rw (output_by, ← e)
 
-    pub refused_padded : no_fields ≡ padded_by t v r n d
-    unfolding padded_by
-    refused_padded = padded_none (answer_by t v r n d) _ x (sym by_refused)
-
-  module _ (at u : ℕ) (h : w ≡ Ended at u) where
-    ended : walked (dialect t) (fault_by t v r) n ≡ Ended at u
-    ended = sym e ∙ h
-
+  -- one that comes to the end note
+  module _ {x : Ended} (e : Ok x ≡ walked (dialect t) (fault_by t v r) n) where
     listed : listed_in plain_form n ≡ entries_by t v r n
     unfolding entries_by
-    listed = walked_listed (dialect t) (fault_by t v r) n at u ended
+    listed = walked_listed (dialect t) (fault_by t v r) n x (sym e)
 
-    clean_listed : ((f : ℕ) (c : List ℕ) → asked t r f c ≡ 0 → asked t Clean f c ≡ 0) → listed_in plain_form n ≡ entries_by t v Clean n
+    pub by_asked : ((f : ℕ) (c : List ℕ) → asked t r f c ≡ good → asked t Clean f c ≡ good) → (s : List ℕ) → s ≡ set_of (numbers_of (entries_by t v r n)) → Asked t v n s
     unfolding entries_by fault_by
-    clean_listed weaker = listed ∙ sym (weaker_entries (dialect t) (fault_by t v r) n at u ended (fault_by t v Clean) (within_weaker v (asked t r) (asked t Clean) weaker))
-
-    pub by_asked : ((f : ℕ) (c : List ℕ) → asked t r f c ≡ 0 → asked t Clean f c ≡ 0) → (s : List ℕ) → s ≡ fields_on w (entries_by t v r n) → Asked t v n s
-    unfolding fields_on
     by_asked weaker s i =
         record {
-          head = ended_head (dialect t) (fault_by t v r) n at u ended;
-          clean = clean_listed weaker;
-          named = i ∙ ap (λ (x : Walked). fields_on x (entries_by t v r n)) h ∙ ap (λ (x : List Entry). set_of (numbers_of x)) (sym listed);
+          head = ended_head (dialect t) (fault_by t v r) n x (sym e);
+          clean = listed ∙ sym (weaker_entries (dialect t) (fault_by t v r) n x (sym e) (fault_by t v Clean) (within_weaker v (asked t r) (asked t Clean) weaker));
+          named = i ∙ ap (λ (l : List Entry). set_of (numbers_of l)) (sym listed);
         }
 
-    pub by_size : (size : ℕ) → size ≡ size_on w t (entries_by t v r n) → size ≡ size_in t (listed_in plain_form n)
-    unfolding size_on
-    by_size size i = i ∙ ap (λ (x : Walked). size_on x t (entries_by t v r n)) h ∙ ap (size_in t) (sym listed)
+    pub by_sums : {s q : List ℕ} {size : ℕ} → Sums t (entries_by t v r n) s q size → Sums t (listed_in plain_form n) s q size
+    by_sums {s} {q} {size} sums = subst (λ (l : List Entry). Sums t l s q size) (sym listed) sums
 
-    pub by_answered : (d : List ℕ) (o : Output) → o ≡ answered (Ended at u) (message_of t v (mti_in n) (count_in n) (listed_in plain_form n)) d → o ≡ answer_by t v r n d
+    pub by_answered : {o : Result ℕ Refusal} → o ≡ answered (Ok x) (message_of t v (mti_in n) (count_in n) (listed_in plain_form n)) d → o ≡ answer_by t v r n d
     unfolding answer_by
-    by_answered d o a = a ∙ rw (answer_by, ended, listed)
+    by_answered a = a ∙ rw (answer_by, ← e, listed)
 
-    pub by_laid : (d o : List ℕ) → o ≡ laid_out (Ended at u) (message_of t v (mti_in n) (count_in n) (listed_in plain_form n)) d → o ≡ output_by t v r n d
+    pub by_laid : {o : List ℕ} → o ≡ laid_out (Ok x) (message_of t v (mti_in n) (count_in n) (listed_in plain_form n)) d → o ≡ output_by t v r n d
     unfolding output_by
-    by_laid d o a = a ∙ rw (output_by, ended, listed)
+    by_laid a = a ∙ rw (output_by, ← e, listed)
 
-    pub by_padded : (d s q : List ℕ) (o : Output) → o ≡ answer_by t v r n d → s ≡ short_on w t (entries_by t v r n) → q ≡ padded_on o s → q ≡ padded_by t v r n d
-    unfolding padded_by short_on
-    by_padded d s q o a i j =
-        j ∙ ap (padded_on o) (i ∙ ap (λ (x : Walked). short_on x t (entries_by t v r n)) h) ∙ ap (λ (x : Output). padded_on x (set_of (short_in t (entries_by t v r n)))) a
+  pub by_padded : {o : Result ℕ Refusal} {s : List ℕ} → o ≡ answer_by t v r n d → s ≡ set_of (short_in t (entries_by t v r n)) → padded_on o s ≡ padded_by t v r n d
+  unfolding padded_by
+  by_padded a i = rw (a, i)
 
 -- `write_clean`: the numbers that it lends stand for another table
 module _ (t u : Table) (v n d : List ℕ) (same : t ≡ u) where
@@ -239,14 +196,11 @@ module _ (t u : Table) (v n d : List ℕ) (same : t ≡ u) where
   unfolding fault_by asked cleanly
   by_clean = refl
 
-  pub clean_answer_lem : (o : Output) → o ≡ answer_by t v Clean n d → o ≡ clean_answer (dialect u) v n d
+  pub clean_answer_lem : (o : Result ℕ Refusal) → o ≡ answer_by t v Clean n d → o ≡ clean_answer (dialect u) v n d
   unfolding answer_by entries_by clean_answer clean_message
   clean_answer_lem o e =
       e ∙ ap (λ (x : Table). answer_by x v Clean n d) same
       ∙ ap (λ (p : Fault). answered (walked (dialect u) p n) (message_of u v (mti_in n) (count_in n) (entries_in (dialect u) p n)) d) by_clean
-
-  pub clean_told : (o : Output) → o ≡ answer_by t v Clean n d → told o ≡ told (clean_answer (dialect u) v n d)
-  clean_told o e = ap told (clean_answer_lem o e)
 
   pub clean_output_lem : (o : List ℕ) → o ≡ output_by t v Clean n d → o ≡ clean_output (dialect u) v n d
   unfolding output_by entries_by clean_output clean_message
@@ -278,15 +232,12 @@ module _ (t u : Table) (v n d : List ℕ) (same : t ≡ u) where
   unfolding fault_by asked exactly
   by_exact = refl
 
-  pub exact_answer_lem : (o : Output) → o ≡ answer_by t v Exact n d → o ≡ exact_answer (dialect u) v n d
+  pub exact_answer_lem : (o : Result ℕ Refusal) → o ≡ answer_by t v Exact n d → o ≡ exact_answer (dialect u) v n d
   unfolding answer_by entries_by exact_answer
   exact_answer_lem o e =
       e ∙ ap (λ (x : Table). answer_by x v Exact n d) same
       ∙ ap (λ (p : Fault). answered (walked (dialect u) p n) (message_of u v (mti_in n) (count_in n) (entries_in (dialect u) p n)) d) by_exact
       ∙ ap (λ (x : List ℕ). answered (walked (dialect u) (exactly (dialect u) v) n) x d) (exact_message_lem (dialect u) v n)
-
-  pub exact_told : (o : Output) → o ≡ answer_by t v Exact n d → told o ≡ told (exact_answer (dialect u) v n d)
-  exact_told o e = ap told (exact_answer_lem o e)
 
   pub exact_output_lem : (o : List ℕ) → o ≡ output_by t v Exact n d → o ≡ exact_output (dialect u) v n d
   unfolding output_by entries_by exact_output

@@ -8,23 +8,20 @@ use lib.Dec.{leb}
 use borrow.Author.Tests.{leb-true}
 use Rattle.octets.specs.Lists.{all}
 use Rattle.octets.proofs.Cases.{by_bool, both_left, both_right}
-use Rattle.refusal.specs.declared.Refusal.{Refusal}
 use Rattle.field_table.specs.Table.{Table}
 use Rattle.field_table.proofs.Rows.{Bounded}
 use Rattle.field_write.specs.Fields.{is_short, written_size, longest}
 use Rattle.field_write.proofs.Padding.{missing_most}
-use Rattle.bitmap.specs.Bitmaps.{is_field, no_fields, with_field, set_of, set_from}
+use Rattle.bitmap.specs.Bitmaps.{is_field, no_fields, with_field, set_from}
 use Rattle.bitmap.proofs.Sets.{set_is}
 use Rattle.bitmap.proofs.Maps.{field_high}
 use Rattle.message_language.specs.Language.{Entry, entry}
 use Rattle.message_contents.specs.Contents.{numbers_of, short_in}
 use Rattle.message_contents.proofs.Made.{is_low, is_field_lem}
-use Rattle.message_walk.specs.declared.Walked.{Walked}
-use Rattle.message_walk.specs.declared.Walked.TheVariants.{Refused as WalkRefused}
 use Rattle.message_walk.specs.Walk.{Fault}
 use Rattle.message_walk.proofs.Steps.{Good}
 use Rattle.message_walk.proofs.Naming.{Naming, naming_first, naming_next, naming_done}
-use Rattle.message_write.specs.Written.{size_in, size_most, short_on, size_on}
+use Rattle.message_write.specs.Written.{size_in, size_most, Sums}
 
 -- `with_short`
 module _ (t : Table) (s s' : List ℕ) (f z : ℕ) (flag : Bool) (tested : flag ≡ is_short t f z) where
@@ -91,26 +88,12 @@ module _ {t : Table} (small : Bounded t) {whole : List Entry} {s q : List ℕ} {
       }
 
 module _ {t : Table} {whole : List Entry} {s q : List ℕ} {size last : ℕ} (are : all is_field (numbers_of whole) ≡ true) (c : Weighing t whole s q size last []) where
-  pub weighed_fields : s ≡ set_of (numbers_of whole)
-  weighed_fields = naming_done are c.naming
-
-  pub weighed_short : q ≡ set_of (short_in t whole)
-  unfolding short_in set_from
-  weighed_short = sym (sym (set_is (short_in t whole) (short_are t whole are)) ∙ c.shorts)
-
-  pub weighed_size : size ≡ size_in t whole
-  unfolding size_in
-  weighed_size = omega (arith, c.sizes)
-
-pub weighed_small : {t : Table} {whole : List Entry} {s q : List ℕ} {size last : ℕ} → Weighing t whole s q size last [] → size ≤ size_most
-weighed_small c = omega (arith, c.bound, c.high)
-
--- a refused walk
-module _ (w : Walked) (r : Refusal) (t : Table) (es : List Entry) (e : w ≡ WalkRefused r) where
-  pub short_none : no_fields ≡ short_on w t es
-  unfolding short_on
-  short_none = rw e
-
-  pub size_none : 0 ≡ size_on w t es
-  unfolding size_on
-  size_none = rw e
+  pub weighed : Sums t whole s q size
+  unfolding short_in set_from size_in
+  weighed =
+      record {
+        named = naming_done are c.naming;
+        short = sym (sym (set_is (short_in t whole) (short_are t whole are)) ∙ c.shorts);
+        sized = omega (arith, c.sizes);
+        small = omega (arith, c.bound, c.high);
+      }

@@ -10,6 +10,7 @@ use lib.ListN.{length, take, drop, length-append}
 use borrow.Rule.Slice.PartMut.{mid_of, put_mid}
 use Rattle.octets.specs.Lists.{lay}
 use Rattle.octets.proofs.Parts.{Written, written_none, written_more, written_end, written_room}
+use Rattle.refusal.specs.Refusals.{good}
 use Rattle.field_table.specs.Table.{Table}
 use Rattle.field_table.proofs.Rows.{Bounded}
 use Rattle.field_write.specs.Fields.{clean_fault, field_bytes, field_into, written_size, longest}
@@ -31,10 +32,10 @@ use Rattle.message_write.proofs.Weighing.{taken}
 -- A field whose content the cleaning writer takes: where it lies, and what it takes.
 pub record Taken (t : Table) (v : List ℕ) (f a z : ℕ) : Type 0 where
   pub place : a + z ≤ length v
-  pub clean : clean_fault t f (content_of v a z) ≡ 0
+  pub clean : clean_fault t f (content_of v a z) ≡ good
   pub sized : length (content_of v a z) ≡ z
 
-is_taken : (t : Table) (v : List ℕ) (f a z : ℕ) → fault_by t v Clean (entry f a z) ≡ 0 → Taken t v f a z
+is_taken : (t : Table) (v : List ℕ) (f a z : ℕ) → fault_by t v Clean (entry f a z) ≡ good → Taken t v f a z
 unfolding fault_by asked
 is_taken t v f a z h = let i = is_inside v (clean_fault t) (entry f a z) h in record { place = i.place; clean = i.fault; sized = i.sized }
 

@@ -1,58 +1,58 @@
 // The exact and the cleaning writer. 01, "Exact and cleaning writers".
 #![tactic(auto)]
 
-ghost use Rattle.std.specs.Prelude.{◌≡◌, cond, List, ℕ, ◌≤◌, length, drop};
+ghost use Rattle.std.specs.Prelude.{◌≡◌, cond, List, ℕ, ◌≤◌, length, drop, Ok, IfOk};
 ghost use Rattle.octets.specs.Lists.{lay};
-ghost use Rattle.refusal.specs.Refusals.{refusal, told};
+ghost use Rattle.refusal.specs.Refusals.{told, good};
 ghost use Rattle.field_table.specs.House.{house};
 ghost use Rattle.field_table.specs.Codes.{decoded};
 ghost use Rattle.field_write.specs.Fields.{is_short};
-ghost use Rattle.bitmap.specs.Bitmaps.{no_fields, with_field, set_of};
+ghost use Rattle.bitmap.specs.Bitmaps.{with_field, set_of};
 ghost use Rattle.message_contents.specs.Contents.{numbers_of};
 ghost use Rattle.message_notes.specs.Dialect.{plain_form, head_size, dialect};
 ghost use Rattle.message_notes.specs.Notes.{count_in};
-ghost use Rattle.message_walk.specs.Walk.{head_number, ending, walked, fields_on, listed_in};
+ghost use Rattle.message_walk.specs.Walk.{head_number, ending, walked, listed_in};
 ghost use Rattle.message_walk.specs.Faults.{asked, fault_by};
-ghost use Rattle.message_write.specs.Written.{answered, laid_out, exact_answer, exact_output, clean_answer, clean_output, padded_on, clean_padded, body_of, message_in, entries_by, answer_by, output_by, padded_by, size_in, size_most, short_on, size_on};
+ghost use Rattle.message_write.specs.Written.{answered, laid_out, exact_answer, exact_output, cleaned_answer, cleaned_padded, clean_answer, clean_output, clean_padded, body_of, message_in, entries_by, answer_by, output_by, padded_by, weighed_end, Asked, Sums};
 
 use bitmap::{Bitmaps, FieldSet};
 use message_notes::Note;
-use message_walk::{Judged, Rule, Walked};
-use refusal::{Output, Refusal};
+use message_walk::{Ended, Judged, Rule};
+use refusal::{Cause, Refusal};
 
-// What the cleaning writer answers: as the exact one, and the set of the fields that it padded, empty where it refuses.
+// What the cleaning writer answers where it writes: how many bytes, and the set of the fields that it padded.
 #[derive(Clone, Copy)]
 pub struct Cleaned {
-    pub answer: Output,
+    pub length: usize,
     pub padded: FieldSet,
 }
 
-// What the first walk of a writer gathers: how it ended; the fields that the notes name, those of them that are short, and how many bytes
-// they take. The sets are empty and the size is 0 where it was refused.
+// What the first walk of a writer gathers: where it ended; the fields that the notes name, those of them that are short, and how many bytes
+// they take.
 #[derive(Clone, Copy)]
 struct Weighed {
-    end: Walked,
+    end: Ended,
     fields: FieldSet,
     short: FieldSet,
     size: usize,
 }
 
 // Writes the message that notes and values stand for, to the byte. A refusal leaves out as it was.
-pub fn write_exact(values: &[u8], notes: &[u8], out: &mut [u8]) -> Output
+pub fn write_exact(values: &[u8], notes: &[u8], out: &mut [u8]) -> Result<usize, Refusal>
     ensures answers { result ≡ exact_answer (dialect house) values.now notes.now out.old }
     ensures tells { told result ≡ told (exact_answer (dialect house) values.now notes.now out.old) }
     ensures writes { out.new ≡ exact_output (dialect house) values.now notes.now out.old }
 {
     let table = field_table::house_table();
-    let written = write_by(values, notes, Rule::Exact, &table, out);
-    written.answer
+    let written = write_by(values, notes, Rule::Exact, &table, out)?;
+    Ok(written.length)
 }
 
 // Writes it with short fixed contents padded, cuts nothing, and names each field that it padded. A refusal leaves out as it was.
-pub fn write_clean(values: &[u8], notes: &[u8], out: &mut [u8]) -> Cleaned
-    ensures answers { result.answer ≡ clean_answer (dialect house) values.now notes.now out.old }
-    ensures tells { told result.answer ≡ told (clean_answer (dialect house) values.now notes.now out.old) }
-    ensures padded { result.padded.bits ≡ clean_padded (dialect house) values.now notes.now out.old }
+pub fn write_clean(values: &[u8], notes: &[u8], out: &mut [u8]) -> Result<Cleaned, Refusal>
+    ensures answers { cleaned_answer result ≡ clean_answer (dialect house) values.now notes.now out.old }
+    ensures tells { told (cleaned_answer result) ≡ told (clean_answer (dialect house) values.now notes.now out.old) }
+    ensures padded { cleaned_padded result ≡ clean_padded (dialect house) values.now notes.now out.old }
     ensures writes { out.new ≡ clean_output (dialect house) values.now notes.now out.old }
 {
     let table = field_table::house_table();
@@ -60,100 +60,60 @@ pub fn write_clean(values: &[u8], notes: &[u8], out: &mut [u8]) -> Cleaned
 }
 
 // Writes by a rule that takes no content which the cleaning writer refuses.
-fn write_by(values: &[u8], notes: &[u8], rule: Rule, table: &[u16], out: &mut [u8]) -> Cleaned
-    requires { (f : ℕ) (c : List ℕ) → asked (decoded table.now) rule f c ≡ 0 → asked (decoded table.now) Rule.Clean f c ≡ 0 }
-    ensures answers { result.answer ≡ answer_by (decoded table.now) values.now rule notes.now out.old }
-    ensures padded { result.padded.bits ≡ padded_by (decoded table.now) values.now rule notes.now out.old }
+fn write_by(
+    values: &[u8],
+    notes: &[u8],
+    rule: Rule,
+    table: &[u16],
+    out: &mut [u8],
+) -> Result<Cleaned, Refusal>
+    requires { (f : ℕ) (c : List ℕ) → asked (decoded table.now) rule f c ≡ good → asked (decoded table.now) Rule.Clean f c ≡ good }
+    ensures answers { cleaned_answer result ≡ answer_by (decoded table.now) values.now rule notes.now out.old }
+    ensures padded { cleaned_padded result ≡ padded_by (decoded table.now) values.now rule notes.now out.old }
     ensures writes { out.new ≡ output_by (decoded table.now) values.now rule notes.now out.old }
 {
-    let weighed = weigh(values, notes, rule, table);
-    let end = weighed.end;
-    match end {
-        Walked::Refused(refusal) => Cleaned {
-            answer: Output::Refused(refusal),
-            padded: FieldSet::none(),
-        },
-        Walked::Ended { at, said } => {
-            let answer = write_ended(
-                values,
-                notes,
-                at,
-                said,
-                weighed.fields,
-                weighed.size,
-                table,
-                out,
-            );
-            name_padded(answer, weighed.short)
-        }
-    }
-}
-
-// The answer with the fields that were padded: none where nothing was written.
-fn name_padded(answer: Output, short: FieldSet) -> Cleaned
-    ensures answers { result.answer ≡ answer }
-    ensures padded { result.padded.bits ≡ padded_on answer short.bits }
-{
-    match answer {
-        Output::Refused(_) => Cleaned {
-            answer,
-            padded: FieldSet::none(),
-        },
-        Output::Written(_) => Cleaned {
-            answer,
-            padded: short,
-        },
-    }
+    let weighed = weigh(values, notes, rule, table)?;
+    let length = write_ended(values, notes, &weighed, table, out)?;
+    Ok(Cleaned {
+        length,
+        padded: weighed.short,
+    })
 }
 
 // Walks the notes by the rule, and gathers what is needed to write.
-fn weigh(values: &[u8], notes: &[u8], rule: Rule, table: &[u16]) -> Weighed
-    ensures end { result.end ≡ walked (dialect (decoded table.now)) (fault_by (decoded table.now) values.now rule) notes.now }
-    ensures fields { result.fields.bits ≡ fields_on result.end (entries_by (decoded table.now) values.now rule notes.now) }
-    ensures short { result.short.bits ≡ short_on result.end (decoded table.now) (entries_by (decoded table.now) values.now rule notes.now) }
-    ensures size { result.size ≡ size_on result.end (decoded table.now) (entries_by (decoded table.now) values.now rule notes.now) }
-    ensures small { result.size ≤ size_most }
+fn weigh(values: &[u8], notes: &[u8], rule: Rule, table: &[u16]) -> Result<Weighed, Refusal>
+    ensures end { weighed_end result ≡ walked (dialect (decoded table.now)) (fault_by (decoded table.now) values.now rule) notes.now }
+    ensures sums { IfOk result (λ w. Sums (decoded table.now) (entries_by (decoded table.now) values.now rule notes.now) w.fields.bits w.short.bits w.size) }
 {
-    let fault = message_walk::head_fault(notes);
-    if fault != 0 {
-        return refused_at(fault, 0, 0);
-    }
+    message_walk::head_fault(notes)?;
     weigh_fields(values, notes, rule, table)
 }
 
 // The same behind a good head.
-fn weigh_fields(values: &[u8], notes: &[u8], rule: Rule, table: &[u16]) -> Weighed
+fn weigh_fields(values: &[u8], notes: &[u8], rule: Rule, table: &[u16]) -> Result<Weighed, Refusal>
     requires { head_size ≤ length notes.now }
-    ensures end { result.end ≡ ending plain_form (fault_by (decoded table.now) values.now rule) (count_in notes.now) (length notes.now) 0 head_size (drop head_size notes.now) }
-    ensures fields { result.fields.bits ≡ fields_on result.end (entries_by (decoded table.now) values.now rule notes.now) }
-    ensures short { result.short.bits ≡ short_on result.end (decoded table.now) (entries_by (decoded table.now) values.now rule notes.now) }
-    ensures size { result.size ≡ size_on result.end (decoded table.now) (entries_by (decoded table.now) values.now rule notes.now) }
-    ensures small { result.size ≤ size_most }
+    ensures end { weighed_end result ≡ ending plain_form (fault_by (decoded table.now) values.now rule) (count_in notes.now) (length notes.now) 0 head_size (drop head_size notes.now) }
+    ensures sums { IfOk result (λ w. Sums (decoded table.now) (entries_by (decoded table.now) values.now rule notes.now) w.fields.bits w.short.bits w.size) }
 {
     let count = message_notes::count_in(notes);
     let mut fields = FieldSet::none();
     let mut short = FieldSet::none();
     let mut size: usize = 0;
-    let mut last: usize = 0;
+    let mut last = 0;
     let mut at = message_notes::HEAD_SIZE;
-    while at <= notes.len() {
+    loop {
         match message_walk::judge(values, &notes[at..], count, last, rule, table) {
-            Judged::Refused { number, field } => {
-                return refused_at(number, field, at);
-            }
-            Judged::End(said) => {
-                return Weighed {
-                    end: Walked::Ended { at, said },
+            Err(flaw) => return Err(flaw.at(at)),
+            Ok(Judged::End(said)) => {
+                let end = Ended { at, said };
+                return Ok(Weighed {
+                    end,
                     fields,
                     short,
                     size,
-                };
+                });
             }
-            Judged::Passed {
-                number,
-                offset: _,
-                length,
-            } => {
+            Ok(Judged::Passed { number, length, .. }) => {
                 fields = fields.with(number);
                 short = with_short(short, number, length, table);
                 size += field_write::written_size(number, length, table);
@@ -161,26 +121,6 @@ fn weigh_fields(values: &[u8], notes: &[u8], rule: Rule, table: &[u16]) -> Weigh
                 at += message_notes::FIELD_NOTE_SIZE;
             }
         }
-    }
-    refused_at(refusal::NOTE_MALFORMED, 0, at)
-}
-
-// A walk that is refused at the place at.
-fn refused_at(number: u8, field: usize, at: usize) -> Weighed
-    ensures end { result.end ≡ Walked.Refused (refusal number field at) }
-    ensures fields { result.fields.bits ≡ no_fields }
-    ensures short { result.short.bits ≡ no_fields }
-    ensures size { result.size ≡ 0 }
-{
-    Weighed {
-        end: Walked::Refused(Refusal {
-            number,
-            field,
-            position: at,
-        }),
-        fields: FieldSet::none(),
-        short: FieldSet::none(),
-        size: 0,
     }
 }
 
@@ -194,51 +134,35 @@ fn with_short(short: FieldSet, number: usize, length: usize, table: &[u16]) -> F
     short
 }
 
-// 13 where the end note at the place at says another length than the message has, then 14; then writes the message. The notes name these
-// fields, which take size bytes, and every content may be written.
+// 13 where the end note says another length than the message has, then 14; then writes the message. Every content may be written.
 fn write_ended(
     values: &[u8],
     notes: &[u8],
-    at: usize,
-    said: usize,
-    fields: FieldSet,
-    size: usize,
+    weighed: &Weighed,
     table: &[u16],
     out: &mut [u8],
-) -> Output
-    requires head { head_number 3 notes.now ≡ 0 }
-    requires clean { listed_in plain_form notes.now ≡ entries_by (decoded table.now) values.now Rule.Clean notes.now }
-    requires named { fields.bits ≡ set_of (numbers_of (listed_in plain_form notes.now)) }
-    requires sized { size ≡ size_in (decoded table.now) (listed_in plain_form notes.now) }
-    requires small { size ≤ size_most }
-    ensures answers { result ≡ answered (Walked.Ended at said) (message_in (decoded table.now) values.now notes.now) out.old }
-    ensures writes { out.new ≡ laid_out (Walked.Ended at said) (message_in (decoded table.now) values.now notes.now) out.old }
+) -> Result<usize, Refusal>
+    requires asked { Asked (decoded table.now) values.now notes.now weighed.now.fields.bits }
+    requires sums { Sums (decoded table.now) (listed_in plain_form notes.now) weighed.now.fields.bits weighed.now.short.bits weighed.now.size }
+    ensures answers { result ≡ answered (Ok weighed.now.end) (message_in (decoded table.now) values.now notes.now) out.old }
+    ensures writes { out.new ≡ laid_out (Ok weighed.now.end) (message_in (decoded table.now) values.now notes.now) out.old }
 {
     let count = message_notes::count_in(notes);
-    let length = 4 + 8 * count + size;
+    let length = 4 + 8 * count + weighed.size;
+    let Ended { at, said } = weighed.end;
     if said != length {
-        return Output::Refused(Refusal {
-            number: refusal::END_DIFFERS,
-            field: 0,
-            position: at,
-        });
+        return Err(Cause::EndDiffers.at(0, at));
     }
     if out.len() < length {
-        return Output::Refused(Refusal {
-            number: refusal::OUTPUT_TOO_SHORT,
-            field: 0,
-            position: at,
-        });
+        return Err(Cause::OutputTooShort.at(0, at));
     }
-    write_message(values, notes, fields, table, out);
-    Output::Written(length)
+    write_message(values, notes, weighed.fields, table, out);
+    Ok(length)
 }
 
 // Writes MTI, bitmaps and fields, each behind the last.
 fn write_message(values: &[u8], notes: &[u8], fields: FieldSet, table: &[u16], out: &mut [u8])
-    requires head { head_number 3 notes.now ≡ 0 }
-    requires clean { listed_in plain_form notes.now ≡ entries_by (decoded table.now) values.now Rule.Clean notes.now }
-    requires named { fields.bits ≡ set_of (numbers_of (listed_in plain_form notes.now)) }
+    requires asked { Asked (decoded table.now) values.now notes.now fields.bits }
     requires room { length (message_in (decoded table.now) values.now notes.now) ≤ length out.old }
     ensures { out.new ≡ lay (message_in (decoded table.now) values.now notes.now) out.old }
 {
@@ -258,27 +182,18 @@ fn write_body(values: &[u8], notes: &[u8], table: &[u16], out: &mut [u8])
     requires room { length (body_of (decoded table.now) values.now (listed_in plain_form notes.now)) ≤ length out.old }
     ensures { out.new ≡ lay (body_of (decoded table.now) values.now (listed_in plain_form notes.now)) out.old }
 {
-    let mut written: usize = 0;
+    let mut written = 0;
     let mut at = message_notes::HEAD_SIZE;
-    while at <= notes.len() {
-        match message_notes::read_note(&notes[at..]) {
-            Note::Malformed => {
-                return;
-            }
-            Note::End(_) => {
-                return;
-            }
-            Note::Field {
-                number,
-                offset,
-                length,
-            } => {
-                let end = offset + length;
-                let size = field_write::written_size(number, length, table);
-                field_write::put_field(number, &values[offset..end], table, &mut out[written..]);
-                written += size;
-                at += message_notes::FIELD_NOTE_SIZE;
-            }
-        }
+    while let Note::Field {
+        number,
+        offset,
+        length,
+    } = message_notes::read_note(&notes[at..])
+    {
+        let end = offset + length;
+        let size = field_write::written_size(number, length, table);
+        field_write::put_field(number, &values[offset..end], table, &mut out[written..]);
+        written += size;
+        at += message_notes::FIELD_NOTE_SIZE;
     }
 }
