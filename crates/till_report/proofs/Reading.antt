@@ -1,5 +1,5 @@
 -- What was read is what the reader has lost, and from its first `input_most + 1` bytes the report of all of them follows. Assumes nothing.
-use Rattle.std.proofs.Common.{◌≡◌, ℕ, ◌+◌, ◌-◌, ◌<◌, ◌≤◌, List, ◌++◌, None, Some, IfSome, length, take, drop, arith, sym, ap, subst, ◌∙◌, append_assoc, append-nil, length-take-le, length-take, length-append, take_all}
+use Rattle.std.proofs.Common.{◌≡◌, ℕ, ◌+◌, ◌-◌, ◌<◌, ◌≤◌, List, ◌++◌, None, Some, IfSome, length, take, drop, arith, refl, sym, ap, subst, ◌∙◌, append_assoc, append-nil, length-take-le, length-take, length-append, take_all}
 use Rattle.std.proofs.Math.Seq.{take-append-add, take-append_seam}
 use Rattle.std.specs.declared.option.Option.{Option}
 use Rattle.std.specs.Io.KnownBytes.{Appends, Consumes, IsAtEnd}
@@ -50,7 +50,7 @@ module _ (d : Dialect) where
   cut : (xs : List ℕ) → report_of d (take (input_most + 1) xs) ≡ report_of d xs
   cut xs =
       by_lt input_most (length xs)
-      (λ l. too_long d (take (input_most + 1) xs) (omega (arith, length-take (input_most + 1) xs)) ∙ sym (too_long d xs l))
+      (λ l. too_long d (take (input_most + 1) xs) (omega (arith, length-take (input_most + 1) xs)) refl ∙ sym (too_long d xs l refl))
       (λ l. ap (report_of d) (take_all (input_most + 1) xs (omega arith)))
 
   pub report_whole : (bs xs : List ℕ) (old new : Option (List ℕ)) → bs ≡ take (input_most + 1) xs → Appends old new (report_of d bs) → Appends old new (report_of d xs)
