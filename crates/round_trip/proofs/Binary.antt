@@ -8,13 +8,14 @@ use native.Mathlib.Omega.{arith}
 use lib.Dec.{eqb, leb}
 use lib.ListN.{length, drop}
 use borrow.Author.Tests.{le-leb}
-use Rattle.octets.specs.Lists.{between, all}
+use Rattle.std.specs.Prelude.{Result, Ok, Err}
+use Rattle.octets.specs.Lists.{both, between, all}
 use Rattle.octets.specs.Numbers.{is_digit, decimal}
 use Rattle.octets.proofs.Cases.{by_bool}
 use Rattle.refusal.specs.Numbers.{text_not_ascii}
-use Rattle.refusal.specs.Refusals.{refusal}
+use Rattle.refusal.specs.Refusals.{refusal, Test, bad}
 use Rattle.refusal.specs.declared.Refusal.{Refusal}
-use Rattle.refusal.specs.declared.Output.TheVariants.{Written, Refused}
+use Rattle.refusal.proofs.Tests.{by_test}
 use Rattle.field_table.specs.Table.{Table, is_binary, table_of}
 use Rattle.field_table.specs.House.{house, house_rows}
 use Rattle.field_table.proofs.Rows.{house_small}
@@ -24,123 +25,100 @@ use Rattle.message_contents.specs.Contents.{content_of, number_allowed}
 use Rattle.message_contents.proofs.Items.{item}
 use Rattle.message_notes.specs.Dialect.{Form, note_size, head_size, Dialect, dialect}
 use Rattle.message_notes.specs.Notes.{is_head, mti_in, count_in, is_marked, note_at}
-use Rattle.message_reader.proofs.Binary.{number_of, field_of, read_not}
-use Rattle.message_walk.specs.declared.Judged.TheVariants.{Passed, End, Refused as NotPassed}
-use Rattle.message_walk.specs.declared.Walked.{Walked}
-use Rattle.message_walk.specs.declared.Walked.TheVariants.{Ended, Refused as WalkRefused}
-use Rattle.message_walk.specs.Walk.{Fault, head_number, judged_field, judged, ending, walked}
+use Rattle.message_reader.proofs.Binary.{cause_of, field_of, same_number, read_not}
+use Rattle.message_reader.proofs.Results.{same_err}
+use Rattle.message_walk.specs.declared.Judged.{Judged}
+use Rattle.message_walk.specs.declared.Flaw.{Flaw}
+use Rattle.message_walk.specs.declared.Ended.{Ended}
+use Rattle.message_walk.specs.Walk.{flaw, Fault, head_number, judged_field, judged, ending, walked}
 use Rattle.message_walk.specs.Faults.{within}
 use Rattle.message_walk.proofs.Steps.{by_note, by_judged, judged_malformed, judged_end, judged_note, ending_bad, ending_end, ending_more}
 use Rattle.message_write.specs.Written.{exactly, cleanly, exact_message, clean_message, answered, exact_answer, clean_answer}
 use Rattle.round_trip.specs.Binary.{BinaryNeverText, HouseChip}
 
--- A walk that asks of field f nothing that is 8.
-same_judged : {n f k g : ℕ} → NotPassed n f ≡ NotPassed k g → n ≡ k
-same_judged e = cc
-
-same_walk : {r q : Refusal} → WalkRefused r ≡ WalkRefused q → r ≡ q
-same_walk e = cc
-
-not_passed : {f a n k g : ℕ} → Passed f a n ≡ NotPassed k g → ⊥
-not_passed e = let z : ◌≡◌ {A = ℕ} 0 1 = cc in omega arith
-
-not_end : {u k g : ℕ} → End u ≡ NotPassed k g → ⊥
-not_end e = let z : ◌≡◌ {A = ℕ} 0 1 = cc in omega arith
-
-not_ended : {a u : ℕ} {r : Refusal} → Ended a u ≡ WalkRefused r → ⊥
-not_ended e = let z : ◌≡◌ {A = ℕ} 0 1 = cc in omega arith
-
-same_output : {r q : Refusal} → Refused r ≡ Refused q → r ≡ q
-same_output e = cc
-
-not_written : {n : ℕ} {r : Refusal} → Written n ≡ Refused r → ⊥
-not_written e = let z : ◌≡◌ {A = ℕ} 0 1 = cc in omega arith
-
 -- a writer's own refusals are 13 and 14
-answer_not : (w : Walked) (bytes out : List ℕ) (f p : ℕ) → (w ≡ WalkRefused (refusal text_not_ascii f p) → ⊥) → answered w bytes out ≡ Refused (refusal text_not_ascii f p) → ⊥
+answer_not : (w : Result Ended Refusal) (bytes out : List ℕ) (f p : ℕ) → (w ≡ Err (refusal text_not_ascii f p) → ⊥)
+    → answered w bytes out ≡ Err (refusal text_not_ascii f p) → ⊥
 unfolding answered
-answer_not (WalkRefused r) bytes out f p h e = h (ap WalkRefused (same_output e))
-answer_not (Ended at u) bytes out f p h e =
-    by_bool (eqb u (length bytes))
-    (λ i. by_bool (leb (length bytes) (length out))
-    (λ j. not_written (rw (i, j) at e))
-    (λ j. omega (arith, number_of (same_output (rw (i, j) at e)))))
-    (λ i. omega (arith, number_of (same_output (rw i at e))))
+answer_not (Err r) bytes out f p h e = h (ap Err (same_err e))
+answer_not (Ok x) bytes out f p h e =
+    by_bool (eqb x.said (length bytes))
+    (λ i. by_bool (leb (length bytes) (length out)) (λ j. cc (rw (i, j) at e)) (λ j. omega (arith, same_number (rw (i, j) at e))))
+    (λ i. omega (arith, same_number (rw i at e)))
 
-head_number_not : (m : ℕ) (n : List ℕ) → head_number m n ≡ text_not_ascii → ⊥
+head_number_not : (m : ℕ) (n : List ℕ) → head_number m n ≡ bad text_not_ascii → ⊥
 unfolding head_number
 head_number_not m n e =
-    by_bool (is_head n)
-    (λ h. by_bool (between 1 3 (count_in n))
-    (λ i. by_bool (leb (count_in n) m)
-    (λ j. by_bool (all is_digit (mti_in n)) (λ k. omega (arith, rw (h, i, j, k) at e)) (λ k. omega (arith, rw (h, i, j, k) at e)))
-    (λ j. omega (arith, rw (h, i, j) at e)))
-    (λ i. omega (arith, rw (h, i) at e)))
-    (λ h. omega (arith, rw h at e))
+    by_bool (both (is_head n) (between 1 3 (count_in n)))
+    (λ h. by_bool (leb (count_in n) m)
+    (λ i. by_bool (all is_digit (mti_in n)) (λ j. cc (rw (h, i, j) at e)) (λ j. cc (rw (h, i, j) at e)))
+    (λ i. cc (rw (h, i) at e)))
+    (λ h. cc (rw h at e))
 
-module _ (q : Fault) (f : ℕ) (fine : (a n : ℕ) → q (entry f a n) ≡ text_not_ascii → ⊥) where
-  judged_field_not : (b : Bool) (m last g a n : ℕ) → judged_field b q m last g a n ≡ NotPassed text_not_ascii f → ⊥
+flaw_cause : {x y : Flaw} → ◌≡◌ {A = Result Judged Flaw} (Err x) (Err y) → x.cause ≡ y.cause
+flaw_cause e = ap (λ (w : Flaw). w.cause) (same_err e)
+
+-- A walk that asks of field f nothing that is 8.
+module _ (q : Fault) (f : ℕ) (fine : (a n : ℕ) → q (entry f a n) ≡ bad text_not_ascii → ⊥) where
+  judged_field_not : (b : Bool) (m last g a n : ℕ) → judged_field b q m last g a n ≡ Err (flaw text_not_ascii f) → ⊥
   unfolding judged_field
   judged_field_not b m last g a n e =
       by_bool (number_allowed m last g)
       (λ h. by_bool b
-      (λ i. by_bool (eqb (q (entry g a n)) 0)
-      (λ j. not_passed (rw (h, i, j) at e))
-      (λ j.
-      let r : NotPassed (q (entry g a n)) g ≡ NotPassed text_not_ascii f = rw (h, i, j) at e in
-      let x : g ≡ f = cc in
-      let y : q (entry g a n) ≡ text_not_ascii = cc in
-      fine a n (rw x at y)))
-      (λ i. omega (arith, same_judged (rw (h, i) at e))))
-      (λ h. omega (arith, same_judged (rw h at e)))
+      (λ i. by_test (q (entry g a n))
+      (λ j. cc (rw (h, i, j) at e))
+      (λ c j.
+      let r : flaw c g ≡ flaw text_not_ascii f = same_err (rw (h, i, j) at e) in
+      let x : g ≡ f = ap (λ (w : Flaw). w.field) r in
+      let y : c ≡ text_not_ascii = ap (λ (w : Flaw). w.cause) r in
+      fine a n (rw (x, y) at j)))
+      (λ i. cc (flaw_cause (rw (h, i) at e))))
+      (λ h. cc (flaw_cause (rw h at e)))
 
   module _ (F : Form) (m : ℕ) where
-    judged_not : (last : ℕ) (s : List ℕ) → judged F q m last s ≡ NotPassed text_not_ascii f → ⊥
+    judged_not : (last : ℕ) (s : List ℕ) → judged F q m last s ≡ Err (flaw text_not_ascii f) → ⊥
     judged_not last s e =
         by_note (note_at F s)
-        (λ h. omega (arith, same_judged (sym (judged_malformed F q m last s h) ∙ e)))
-        (λ u h. not_end (sym (judged_end F q m last s u h) ∙ e))
+        (λ h. cc (flaw_cause (sym (judged_malformed F q m last s h) ∙ e)))
+        (λ u h. cc (judged_end F q m last s u h))
         (λ g a n h. judged_field_not (is_marked F g s) m last g a n (sym (judged_note F q m last s g a n h) ∙ e))
 
-    ending_not : (k last at : ℕ) (s : List ℕ) (p : ℕ) → ending F q m k last at s ≡ WalkRefused (refusal text_not_ascii f p) → ⊥
+    ending_not : (k last at : ℕ) (s : List ℕ) (p : ℕ) → ending F q m k last at s ≡ Err (refusal text_not_ascii f p) → ⊥
     unfolding ending
-    ending_not zero last at s p e = omega (arith, number_of (same_walk e))
+    ending_not zero last at s p e = omega (arith, same_number e)
     ending_not (suc k) last at s p e =
         by_judged (judged F q m last s)
-        (λ n g h.
-        let r : refusal n g at ≡ refusal text_not_ascii f p = same_walk (sym (ending_bad F q m k last at s n g h) ∙ e) in
-        let x : g ≡ f = field_of r in
-        let y : n ≡ text_not_ascii = number_of r in
-        judged_not last s (rw (x, y) at h))
-        (λ u h. not_ended (sym (ending_end F q m k last at s u h) ∙ e))
+        (λ w h.
+        let r : refusal w.cause w.field at ≡ refusal text_not_ascii f p = same_err (sym (ending_bad F q m k last at s w h) ∙ e) in
+        judged_not last s (h ∙ (λ i. Err (flaw (cause_of r i) (field_of r i)))))
+        (λ u h. cc (ending_end F q m k last at s u h))
         (λ g a n h. ending_not k g (at + note_size F) (drop (note_size F) s) p (sym (ending_more F q m k last at s g a n h) ∙ e))
 
-  walked_not : (d : Dialect) (n : List ℕ) (p : ℕ) → walked d q n ≡ WalkRefused (refusal text_not_ascii f p) → ⊥
+  walked_not : (d : Dialect) (n : List ℕ) (p : ℕ) → walked d q n ≡ Err (refusal text_not_ascii f p) → ⊥
   unfolding walked
   walked_not d n p e =
-      by_bool (eqb (head_number d.most n) 0)
-      (λ h. ending_not d.form (count_in n) (length n) 0 head_size (drop head_size n) p (rw h at e))
-      (λ h. head_number_not d.most n (number_of (same_walk (rw h at e))))
+      by_test (head_number d.most n)
+      (λ h. ending_not d.form (count_in n) (length n) 0 head_size (drop head_size n) p (rw (walked, h) at e))
+      (λ c h. head_number_not d.most n (h ∙ ap bad (cause_of (same_err (rw (walked, h) at e)))))
 
   -- and a writer over it
-  answered_not : (d : Dialect) (n bytes out : List ℕ) (p : ℕ) → answered (walked d q n) bytes out ≡ Refused (refusal text_not_ascii f p) → ⊥
+  answered_not : (d : Dialect) (n bytes out : List ℕ) (p : ℕ) → answered (walked d q n) bytes out ≡ Err (refusal text_not_ascii f p) → ⊥
   answered_not d n bytes out p e = answer_not (walked d q n) bytes out f p (walked_not d n p) e
 
 -- What the writers ask of a binary field: 11, 12, or nothing.
 module _ (t : Table) (f : ℕ) (binary : is_binary (t.class f) ≡ true) where
-  exact_not : (c : List ℕ) → exact_fault t f c ≡ text_not_ascii → ⊥
+  exact_not : (c : List ℕ) → exact_fault t f c ≡ bad text_not_ascii → ⊥
   unfolding exact_fault text_fault
-  exact_not c e =
-      by_bool (is_allowed_length t f (length c)) (λ h. omega (arith, rw (h, binary) at e)) (λ h. omega (arith, rw h at e))
+  exact_not c e = by_bool (is_allowed_length t f (length c)) (λ h. cc (rw (h, binary) at e)) (λ h. cc (rw h at e))
 
-  clean_not : (c : List ℕ) → clean_fault t f c ≡ text_not_ascii → ⊥
+  clean_not : (c : List ℕ) → clean_fault t f c ≡ bad text_not_ascii → ⊥
   unfolding clean_fault text_fault
-  clean_not c e = by_bool (leb (length c) (t.most f)) (λ h. omega (arith, rw (h, binary) at e)) (λ h. omega (arith, rw h at e))
+  clean_not c e = by_bool (leb (length c) (t.most f)) (λ h. cc (rw (h, binary) at e)) (λ h. cc (rw h at e))
 
-within_not : (v : List ℕ) (q : ℕ → List ℕ → ℕ) (f : ℕ) → ((c : List ℕ) → q f c ≡ text_not_ascii → ⊥) → (a n : ℕ) → within v q (entry f a n) ≡ text_not_ascii → ⊥
+within_not : (v : List ℕ) (q : ℕ → List ℕ → Test) (f : ℕ) → ((c : List ℕ) → q f c ≡ bad text_not_ascii → ⊥) → (a n : ℕ)
+    → within v q (entry f a n) ≡ bad text_not_ascii → ⊥
 unfolding within
-within_not v q f fine a n e =
-    by_bool (leb (a + n) (length v)) (λ h. fine (content_of v a n) (rw h at e)) (λ h. omega (arith, rw h at e))
+within_not v q f fine a n e = by_bool (leb (a + n) (length v)) (λ h. fine (content_of v a n) (rw h at e)) (λ h. cc (rw h at e))
 
 pub never_text : (d : Dialect) → BinaryNeverText d
 unfolding BinaryNeverText exact_answer clean_answer exactly cleanly

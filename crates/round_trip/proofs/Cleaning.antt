@@ -6,11 +6,11 @@ use mathlib.Core.Bool.{true, false}
 use mathlib.Core.List.{List, [], ◌∷◌, ◌++◌, append-nil}
 use native.Mathlib.Omega.{arith}
 use lib.ListN.{length, replicate}
+use Rattle.std.specs.Prelude.{Ok, Err}
 use Rattle.octets.specs.Lists.{all}
 use Rattle.octets.proofs.Cases.{false_true, by_bool, by_eq, by_le}
+use Rattle.refusal.specs.Refusals.{good}
 use Rattle.refusal.specs.declared.Refusal.{Refusal}
-use Rattle.refusal.specs.declared.Output.{Output}
-use Rattle.refusal.specs.declared.Output.TheVariants.{Written, Refused}
 use Rattle.field_table.specs.Table.{Table}
 use Rattle.field_write.specs.Fields.{exact_fault, clean_fault, is_short, missing, pad_byte, pads_left, padded, cleaned}
 use Rattle.field_write.proofs.Cleaned.{not_short_whole, cleaned_exact}
@@ -24,6 +24,7 @@ use Rattle.message_contents.specs.Contents.{Content, content, contents_in, messa
 use Rattle.message_contents.proofs.Made.{no_member}
 use Rattle.message_notes.specs.Dialect.{Dialect, Sound}
 use Rattle.message_notes.specs.Notes.{mti_in, count_in}
+use Rattle.message_reader.proofs.Results.{by_result}
 use Rattle.message_walk.specs.Walk.{walked, entries_in}
 use Rattle.message_walk.specs.Faults.{any, within}
 use Rattle.message_walk.proofs.Agreeing.{Agree, same_walked, same_entries}
@@ -46,10 +47,6 @@ set_bit fs f a =
     (λ b. ap (λ (s : List ℕ). bit_of s f) (sym e) ∙ bit_set fs f a (omega arith) b)
     (λ b. sym (bit_past (set_of fs) f d (omega arith)) ∙ sym (no_member fs f a (sym (high_no_field f (omega arith) b)))))
 
-by_output : {P : Type 0} (o : Output) → ((u : ℕ) → o ≡ Written u → P) → ((r : Refusal) → o ≡ Refused r → P) → P
-by_output (Written u) x y = x u refl
-by_output (Refused r) x y = y r refl
-
 no_fields_lem : set_of [] ≡ no_fields
 unfolding set_from
 no_fields_lem = sym (set_is [] refl)
@@ -69,7 +66,7 @@ module _ (d : Dialect) (v n : List ℕ) where
   is_listed f x = short_listed t v (count_in n) passes f x.before x.bytes x.after x.is (is_short_lem t f (length x.bytes) x.fixed x.short)
 
   -- where the cleaning writer writes
-  module _ (out : List ℕ) (u : ℕ) (h : clean_answer d v n out ≡ Written u) where
+  module _ (out : List ℕ) (u : ℕ) (h : clean_answer d v n out ≡ Ok u) where
     pub padded_is : clean_padded d v n out ≡ set_of (short_in d.table (entries_in d (within v any) n))
     unfolding clean_padded
     padded_is =
@@ -93,12 +90,12 @@ module _ (d : Dialect) (v n : List ℕ) where
         (λ y. absurd (false_true (sym clear ∙ padded_bit f ∙ short_listed t v (count_in n) passes f before c after e y)))
         (λ y. y))
 
-  pub refused_none : (out : List ℕ) (r : Refusal) → clean_answer d v n out ≡ Refused r → clean_padded d v n out ≡ no_fields
+  pub refused_none : (out : List ℕ) (r : Refusal) → clean_answer d v n out ≡ Err r → clean_padded d v n out ≡ no_fields
   unfolding clean_padded
   refused_none out r h = padded_refused (clean_answer d v n out) (set_of (short_in t (entries_in d (cleanly d v) n))) r h
 
   -- nothing is short where the exact writer writes
-  pub written_not_short : (out : List ℕ) (u : ℕ) → exact_answer d v n out ≡ Written u → (f : ℕ) → Short d.table f (contents_named d v n) → ⊥
+  pub written_not_short : (out : List ℕ) (u : ℕ) → exact_answer d v n out ≡ Ok u → (f : ℕ) → Short d.table f (contents_named d v n) → ⊥
   unfolding exactly
   written_not_short out u h f x =
       let e : short_in t es ≡ [] = rw (exact_named d v n out u h) (exact_long t v (count_in n) (entries_walkable d (exactly d v) n)) in
@@ -106,7 +103,7 @@ module _ (d : Dialect) (v n : List ℕ) where
 
   -- where nothing is short
   module _ (no_short : (f : ℕ) → Short t f (contents_named d v n) → ⊥) where
-    outside : (e : Entry) → (within v any e ≡ 0 → ⊥) → cleanly d v e ≡ exactly d v e
+    outside : (e : Entry) → (within v any e ≡ good → ⊥) → cleanly d v e ≡ exactly d v e
     unfolding exactly cleanly
     outside e h = outside_alike v (exact_fault t) (clean_fault t) e h
 
@@ -137,9 +134,9 @@ module _ (d : Dialect) (v n : List ℕ) where
 
       pub none_padded : clean_padded d v n out ≡ no_fields
       none_padded =
-          by_output (clean_answer d v n out)
-          (λ u h. padded_is out u h ∙ ap set_of (none_listed t v (count_in n) passes no_short) ∙ no_fields_lem)
+          by_result (clean_answer d v n out)
           (refused_none out)
+          (λ u h. padded_is out u h ∙ ap set_of (none_listed t v (count_in n) passes no_short) ∙ no_fields_lem)
 
 pub agrees_with_exact : (d : Dialect) → AgreesWithExact d
 agrees_with_exact d =

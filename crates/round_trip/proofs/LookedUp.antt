@@ -5,6 +5,7 @@ use mathlib.Core.List.{List, [], ◌∷◌, ◌++◌}
 use native.Mathlib.Omega.{arith}
 use lib.ListN.{length, drop, length-append}
 use borrow.Author.Tests.{eq-eqb, ne_eqb}
+use Rattle.std.specs.Prelude.{Ok, Err}
 use Rattle.refusal.specs.Numbers.{field_absent}
 use Rattle.refusal.specs.Refusals.{refusal}
 use Rattle.field_write.specs.Fields.{exact_fault}
@@ -13,13 +14,11 @@ use Rattle.message_contents.proofs.Made.{is_low}
 use Rattle.message_notes.specs.Dialect.{Dialect, notes_room, Sound}
 use Rattle.message_notes.specs.Notes.{notes_of}
 use Rattle.message_reader.specs.Reader.{notes_after}
-use Rattle.message_walk.specs.declared.Walked.TheVariants.{Ended}
-use Rattle.message_walk.specs.Walk.{Fault, walked, entries_in}
+use Rattle.message_walk.specs.Walk.{ended as ended_at, Fault, walked, entries_in}
 use Rattle.message_walk.specs.Faults.{any, within}
 use Rattle.message_walk.proofs.Weaker.{weaker_walked, weaker_entries}
 use Rattle.message_walk.proofs.Written.{Walkable, none, more}
-use Rattle.message_lookup.specs.Lookup.{found_in, found_by, looked_up}
-use Rattle.message_lookup.specs.declared.Found.TheVariants.{At, Refused}
+use Rattle.message_lookup.specs.Lookup.{place, found_in, found_by, looked_up}
 use Rattle.message_write.specs.Written.{exactly}
 use Rattle.round_trip.specs.RoundTrip.{end_place, LooksUp}
 use Rattle.round_trip.proofs.Noted.{Noted, noted, read_notes}
@@ -49,7 +48,7 @@ module _ (p : Fault) (m : ℕ) where
 
   -- so an entry is the first of its number
   found : (at : ℕ) {last : ℕ} {es : List Entry} → Walkable p m last es → (before : List Entry) (e : Entry) (after : List Entry) → es ≡ before ++ (e ∷ after)
-      → found_in e.number at es ≡ At e.offset e.size
+      → found_in e.number at es ≡ Ok (place e.offset e.size)
   unfolding found_in behind
   found at none before e after h = absurd (not_none before e after h)
   found at (more g w) [] e after h = ap (found_in e.number at) h ∙ rw (found_in, eq-eqb e.number e.number refl)
@@ -58,7 +57,7 @@ module _ (p : Fault) (m : ℕ) where
       rw (found_in, ne_eqb f e.number (λ q. omega arith)) (found at w before e after (ap behind h))
 
 missed : (f at : ℕ) (es : List Entry) → ((before : List Entry) (e : Entry) (after : List Entry) → es ≡ before ++ (e ∷ after) → e.number ≡ f → ⊥)
-    → found_in f at es ≡ Refused (refusal field_absent f at)
+    → found_in f at es ≡ Err (refusal field_absent f at)
 unfolding found_in
 missed f at [] no_one = refl
 missed f at (c ∷ es) no_one =
@@ -74,18 +73,18 @@ module _ (d : Dialect) (sound : Sound d) (s : List ℕ) (u : ℕ) (r : Reading) 
     abbrev notes : List ℕ
     notes = notes_of d.form r u ++ rest
 
-    ended : walked d (within s any) notes ≡ Ended (end_place d.form r) u
-    ended = weaker_walked d (exactly d s) notes (end_place d.form r) u n.ended (within s any) (exact_inside d s)
+    ended : walked d (within s any) notes ≡ Ok (ended_at (end_place d.form r) u)
+    ended = weaker_walked d (exactly d s) notes (ended_at (end_place d.form r) u) n.ended (within s any) (exact_inside d s)
 
     entries : entries_in d (within s any) notes ≡ r.entries
-    entries = weaker_entries d (exactly d s) notes (end_place d.form r) u n.ended (within s any) (exact_inside d s) ∙ n.entries
+    entries = weaker_entries d (exactly d s) notes (ended_at (end_place d.form r) u) n.ended (within s any) (exact_inside d s) ∙ n.entries
 
     looked_up_lem : (f : ℕ) → looked_up d s (notes_of d.form r u ++ rest) f ≡ found_in f (end_place d.form r) r.entries
     unfolding looked_up found_by
     looked_up_lem f = rw (looked_up, ended, entries)
 
   is_found_lem : (before : List Entry) (e : Entry) (after : List Entry) → r.entries ≡ before ++ (e ∷ after)
-      → found_in e.number (end_place d.form r) r.entries ≡ At e.offset e.size
+      → found_in e.number (end_place d.form r) r.entries ≡ Ok (place e.offset e.size)
   is_found_lem before e after h =
       found (within s (exact_fault d.table)) r.count (end_place d.form r) (noted d sound s u r x []).fields.walk before e after h
 

@@ -5,6 +5,7 @@ use mathlib.Core.Path.{◌≡◌, refl, ap, ◌∙◌}
 use mathlib.Core.List.{List, ◌++◌, append_assoc}
 use native.Mathlib.Omega.{arith}
 use lib.ListN.{length, drop, length-append}
+use Rattle.std.specs.Prelude.{Ok}
 use Rattle.octets.specs.Lists.{lay}
 use Rattle.bitmap.specs.Bitmaps.{fields_of}
 use Rattle.bitmap.proofs.Maps.{count_least}
@@ -16,8 +17,7 @@ use Rattle.message_notes.proofs.Spelling.{AllFit}
 use Rattle.message_reader.specs.Reader.{notes_after}
 use Rattle.message_reader.proofs.Demand3.{reads}
 use Rattle.message_reader.proofs.Small.{entries_fit, used_small}
-use Rattle.message_walk.specs.declared.Walked.TheVariants.{Ended}
-use Rattle.message_walk.specs.Walk.{walked, entries_in}
+use Rattle.message_walk.specs.Walk.{ended as ended_at, walked, entries_in}
 use Rattle.message_walk.proofs.Written.{mti_in_lem, count_in_lem, written_walked, written_entries}
 use Rattle.message_write.specs.Written.{exactly}
 use Rattle.round_trip.specs.RoundTrip.{end_place}
@@ -27,7 +27,7 @@ pub record Noted (d : Dialect) (s rest : List ℕ) (u : ℕ) (r : Reading) (x : 
   pub fields : Back d.table s r.count 0 (fields_of x.is.maps r.count) x.is.body r.entries
   pub mti : mti_in (notes_of d.form r u ++ rest) ≡ r.mti
   pub count : count_in (notes_of d.form r u ++ rest) ≡ r.count
-  pub ended : walked d (exactly d s) (notes_of d.form r u ++ rest) ≡ Ended (end_place d.form r) u
+  pub ended : walked d (exactly d s) (notes_of d.form r u ++ rest) ≡ Ok (ended_at (end_place d.form r) u)
   pub entries : entries_in d (exactly d s) (notes_of d.form r u ++ rest) ≡ r.entries
 
 module _ (d : Dialect) (sound : Sound d) (s : List ℕ) (u : ℕ) (r : Reading) (x : Begins d.table d.most s u r) where

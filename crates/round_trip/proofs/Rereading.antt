@@ -5,8 +5,9 @@ use mathlib.Core.Path.{◌≡◌, refl, sym, ap, ◌∙◌}
 use mathlib.Core.List.{List, ◌++◌}
 use lib.ListN.{length, take, drop, take-append-drop}
 use lib.Seq.{take_at}
+use Rattle.std.specs.Prelude.{Ok}
 use Rattle.octets.specs.Lists.{lay}
-use Rattle.refusal.specs.declared.Output.TheVariants.{Written}
+use Rattle.refusal.specs.Refusals.{good}
 use Rattle.field_table.specs.Table.{Table}
 use Rattle.field_write.specs.Fields.{exact_fault, clean_fault}
 use Rattle.field_write.proofs.Cleaned.{cleaned_exact}
@@ -16,7 +17,7 @@ use Rattle.message_contents.proofs.Contents.{Taken, none, more, makes_message, m
 use Rattle.message_notes.specs.Dialect.{Dialect, notes_room, Sound}
 use Rattle.message_notes.specs.Notes.{mti_in, count_in}
 use Rattle.message_reader.proofs.Demand3.{reads}
-use Rattle.message_walk.specs.Walk.{Fault, walked, entries_in}
+use Rattle.message_walk.specs.Walk.{ended, Fault, walked, entries_in}
 use Rattle.message_walk.specs.Faults.{any, within}
 use Rattle.message_walk.proofs.Heads.{Head, ended_head, good_head}
 use Rattle.message_walk.proofs.Weaker.{weaker_entries}
@@ -27,11 +28,11 @@ use Rattle.message_write.proofs.Answered.{Answered, written_answered, answered_l
 use Rattle.round_trip.specs.RoundTrip.{contents_named, ReadsAs, WritesMessages}
 
 -- both writers ask more of a field than that its content lies within the values
-pub exact_inside : (d : Dialect) (v : List ℕ) (e : Entry) → exactly d v e ≡ 0 → within v any e ≡ 0
+pub exact_inside : (d : Dialect) (v : List ℕ) (e : Entry) → exactly d v e ≡ good → within v any e ≡ good
 unfolding exactly
 exact_inside d v e h = within_weaker v (exact_fault d.table) any (λ f c z. refl) e h
 
-clean_inside : (d : Dialect) (v : List ℕ) (e : Entry) → cleanly d v e ≡ 0 → within v any e ≡ 0
+clean_inside : (d : Dialect) (v : List ℕ) (e : Entry) → cleanly d v e ≡ good → within v any e ≡ good
 unfolding cleanly
 clean_inside d v e h = within_weaker v (clean_fault d.table) any (λ f c z. refl) e h
 
@@ -50,7 +51,7 @@ module _ (t : Table) (v : List ℕ) (m : ℕ) where
 
 -- A writer whose walk asks p of a field answers u and leaves o: it was to write the message of the fields cs, which the exact writer takes.
 pub record Wrote (d : Dialect) (p : Fault) (n out o : List ℕ) (u : ℕ) (cs : List Content) : Type 0 where
-  pub answer : answered (walked d p n) (message_with d.table (mti_in n) (count_in n) cs) out ≡ Written u
+  pub answer : answered (walked d p n) (message_with d.table (mti_in n) (count_in n) cs) out ≡ Ok u
   pub output : o ≡ laid_out (walked d p n) (message_with d.table (mti_in n) (count_in n) cs) out
   pub taken : Taken d.table (count_in n) 0 cs
 
@@ -65,7 +66,7 @@ module _ (d : Dialect) (p : Fault) (n out o : List ℕ) (u : ℕ) (cs : List Con
   was = written_answered (walked d p n) bytes out u w.answer
 
   head : Head d.most n
-  head = good_head d.most n (ended_head d p n was.at u was.ended)
+  head = good_head d.most n (ended_head d p n (ended was.at u) was.ended)
 
   pub written : o ≡ lay (message_with d.table (mti_in n) (count_in n) cs) out
   written = w.output ∙ answered_laid (walked d p n) bytes out u was
@@ -107,13 +108,13 @@ module _ (d : Dialect) (v n out : List ℕ) (u : ℕ) where
   abbrev m : List Content → List ℕ
   m = message_with d.table (mti_in n) (count_in n)
 
-  module _ (h : exact_answer d v n out ≡ Written u) where
+  module _ (h : exact_answer d v n out ≡ Ok u) where
     exact_was : Answered (walked d (exactly d v) n) (exact_message d v n) out u
     unfolding exact_answer
     exact_was = written_answered (walked d (exactly d v) n) (exact_message d v n) out u h
 
     pub exact_named : entries_in d (within v any) n ≡ entries_in d (exactly d v) n
-    exact_named = weaker_entries d (exactly d v) n exact_was.at u exact_was.ended (within v any) (exact_inside d v)
+    exact_named = weaker_entries d (exactly d v) n (ended exact_was.at u) exact_was.ended (within v any) (exact_inside d v)
 
     exact_is : exact_message d v n ≡ m (contents_named d v n)
     unfolding exact_message
@@ -128,13 +129,13 @@ module _ (d : Dialect) (v n out : List ℕ) (u : ℕ) where
           taken = rw exact_named (exact_taken d.table v (count_in n) (entries_walkable d (exactly d v) n));
         }
 
-  module _ (h : clean_answer d v n out ≡ Written u) where
+  module _ (h : clean_answer d v n out ≡ Ok u) where
     clean_was : Answered (walked d (cleanly d v) n) (clean_message d v n) out u
     unfolding clean_answer
     clean_was = written_answered (walked d (cleanly d v) n) (clean_message d v n) out u h
 
     pub clean_named : entries_in d (within v any) n ≡ entries_in d (cleanly d v) n
-    clean_named = weaker_entries d (cleanly d v) n clean_was.at u clean_was.ended (within v any) (clean_inside d v)
+    clean_named = weaker_entries d (cleanly d v) n (ended clean_was.at u) clean_was.ended (within v any) (clean_inside d v)
 
     clean_is : clean_message d v n ≡ m (cleaned_in d.table (contents_named d v n))
     unfolding clean_message message_of

@@ -5,9 +5,9 @@ use mathlib.Core.Bool.{Bool, true}
 use mathlib.Core.List.{List, [], ◌∷◌, ◌++◌}
 use lib.ListN.{length, take, drop}
 use lib.Seq.{take_at}
+use Rattle.std.specs.Prelude.{Ok}
 use Rattle.octets.specs.Lists.{all, lay}
 use Rattle.octets.proofs.Cases.{both_left, both_right}
-use Rattle.refusal.specs.declared.Output.TheVariants.{Written}
 use Rattle.message_language.specs.Language.{Reading, Begins}
 use Rattle.message_contents.specs.Contents.{numbers_of, bitmaps_with, message_with}
 use Rattle.message_contents.proofs.Cleaning.{contents_numbers}
@@ -50,7 +50,7 @@ module _ (d : Dialect) (sound : Sound d) (s : List ℕ) (u : ℕ) (r : Reading) 
       was : Answered (walked d (exactly d s) notes) (exact_message d s notes) out u
       was = record { at = end_place d.form r; ended = n.ended; long = ap length message_back ∙ x.long; room = enough }
 
-      pub answers : exact_answer d s (notes_of d.form r u ++ rest) out ≡ Written u
+      pub answers : exact_answer d s (notes_of d.form r u ++ rest) out ≡ Ok u
       unfolding exact_answer
       answers = answered_written (walked d (exactly d s) notes) (exact_message d s notes) out u was
 
@@ -64,7 +64,7 @@ module _ (d : Dialect) (sound : Sound d) (s : List ℕ) (u : ℕ) (r : Reading) 
       abbrev behind : List ℕ
       behind = drop (length (notes_of d.form r u)) b
 
-      pub read_answers : exact_answer d s (notes_after d s b) out ≡ Written u
+      pub read_answers : exact_answer d s (notes_after d s b) out ≡ Ok u
       read_answers = ap (λ (l : List ℕ). exact_answer d s l out) (read_notes d sound s u r x b room) ∙ answers behind
 
       pub read_given_back : exact_output d s (notes_after d s b) out ≡ lay (take u s) out

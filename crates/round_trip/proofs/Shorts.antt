@@ -9,6 +9,7 @@ use lib.ListN.{length, length-append}
 use borrow.Author.Tests.{le-leb, lt-leb, eq-eqb, ne_eqb, eqb-true, lt-ltb, ltb-true}
 use Rattle.octets.specs.Lists.{either, all}
 use Rattle.octets.proofs.Cases.{false_true, by_bool, by_eq, by_le, both_left, both_right}
+use Rattle.refusal.specs.Refusals.{Test, good}
 use Rattle.field_table.specs.Table.{Table}
 use Rattle.field_write.specs.Fields.{is_allowed_length, exact_fault, clean_fault, is_short}
 use Rattle.field_write.proofs.Allowed.{allowed_most, is_allowed, not_short_long, exact_not_short}
@@ -51,11 +52,11 @@ long_alike t f c h =
     (λ a. rw (a, lt-leb (length c) (t.most f) g)))
 
 -- whatever is asked of contents, the same is found of one that lies outside the values
-pub outside_alike : (v : List ℕ) (p q : ℕ → List ℕ → ℕ) (e : Entry) → (within v any e ≡ 0 → ⊥) → within v q e ≡ within v p e
+pub outside_alike : (v : List ℕ) (p q : ℕ → List ℕ → Test) (e : Entry) → (within v any e ≡ good → ⊥) → within v q e ≡ within v p e
 unfolding within
 outside_alike v p q e h = by_bool (leb (e.offset + e.size) (length v)) (λ y. absurd (h (rw y))) (λ y. rw y)
 
-inside_alike : (v : List ℕ) (p q : ℕ → List ℕ → ℕ) (e : Entry) → q e.number (content_of v e.offset e.size) ≡ p e.number (content_of v e.offset e.size)
+inside_alike : (v : List ℕ) (p q : ℕ → List ℕ → Test) (e : Entry) → q e.number (content_of v e.offset e.size) ≡ p e.number (content_of v e.offset e.size)
     → within v q e ≡ within v p e
 unfolding within
 inside_alike v p q e h = rw h

@@ -6,24 +6,22 @@
 --   HouseChip           == it of field 55 of the house, which is binary, and of which any bytes up to 999 are a content
 --
 -- Assumes nothing: these are statements; proved in proofs/Binary.antt, `BinaryNeverText` for every dialect.
-use Rattle.std.specs.Prelude.{ℕ, ◌≤◌, ◌≡◌, true, List, length}
+use Rattle.std.specs.Prelude.{ℕ, ◌≤◌, ◌≡◌, true, List, length, Err}
 use Rattle.octets.specs.Numbers.{decimal}
 use Rattle.refusal.specs.Numbers.{text_not_ascii}
 use Rattle.refusal.specs.Refusals.{refusal}
-use Rattle.refusal.specs.declared.Output.TheVariants.{Refused}
 use Rattle.field_table.specs.Table.{is_binary}
 use Rattle.field_table.specs.House.{house}
 use Rattle.message_language.specs.Language.{Item}
 use Rattle.message_notes.specs.Dialect.{Dialect, dialect}
 use Rattle.message_reader.specs.Reader.{read_answer}
-use Rattle.message_reader.specs.declared.ReadAnswer.TheVariants.{Refused as NotRead}
 use Rattle.message_write.specs.Written.{exact_answer, clean_answer}
 
 -- No input s and buffer b, no values v, notes n and output out give an 8 with that field, at any position.
 pub record NeverText (d : Dialect) (f : ℕ) : Type 0 where
-  pub reading : (s b : List ℕ) (at : ℕ) → read_answer d s b ≡ NotRead (refusal text_not_ascii f at) → ⊥
-  pub exact_writing : (v n out : List ℕ) (at : ℕ) → exact_answer d v n out ≡ Refused (refusal text_not_ascii f at) → ⊥
-  pub clean_writing : (v n out : List ℕ) (at : ℕ) → clean_answer d v n out ≡ Refused (refusal text_not_ascii f at) → ⊥
+  pub reading : (s b : List ℕ) (at : ℕ) → read_answer d s b ≡ Err (refusal text_not_ascii f at) → ⊥
+  pub exact_writing : (v n out : List ℕ) (at : ℕ) → exact_answer d v n out ≡ Err (refusal text_not_ascii f at) → ⊥
+  pub clean_writing : (v n out : List ℕ) (at : ℕ) → clean_answer d v n out ≡ Err (refusal text_not_ascii f at) → ⊥
 
 unfoldable pub BinaryNeverText : Dialect → Type 0
 BinaryNeverText d = (f : ℕ) → is_binary (d.table.class f) ≡ true → NeverText d f

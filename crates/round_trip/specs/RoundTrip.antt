@@ -22,12 +22,11 @@
 --   IgnoresBehind d           == bytes behind the notes of a message change nothing of what lookup and both writers do
 --
 -- Assumes nothing: these are definitions and statements.
-use Rattle.std.specs.Prelude.{ℕ, ◌+◌, ◌*◌, ◌≤◌, ◌<◌, ◌≡◌, Bool, true, false, List, ◌∷◌, ◌++◌, length, take, replicate}
+use Rattle.std.specs.Prelude.{ℕ, ◌+◌, ◌*◌, ◌≤◌, ◌<◌, ◌≡◌, Bool, true, false, List, ◌∷◌, ◌++◌, length, take, replicate, Ok, Err}
 use Rattle.octets.specs.Lists.{between, all, lay}
 use Rattle.refusal.specs.Numbers.{field_absent}
-use Rattle.refusal.specs.Refusals.{refusal}
+use Rattle.refusal.specs.Refusals.{refusal, good}
 use Rattle.refusal.specs.declared.Refusal.{Refusal}
-use Rattle.refusal.specs.declared.Output.TheVariants.{Written, Refused as WriteRefused}
 use Rattle.field_table.specs.Table.{Table}
 use Rattle.field_write.specs.Fields.{exact_fault, clean_fault, pad_byte, cleaned}
 use Rattle.bitmap.specs.Bits.{bit_of}
@@ -36,12 +35,10 @@ use Rattle.message_language.specs.Language.{Entry, Reading, Message, Begins}
 use Rattle.message_contents.specs.Contents.{Content, content, contents_in, message_with, reading_of, cleaned_in}
 use Rattle.message_notes.specs.Dialect.{Form, note_size, head_size, Dialect, notes_room}
 use Rattle.message_notes.specs.Notes.{notes_of, mti_in, count_in}
-use Rattle.message_reader.specs.Reader.{read_answer, notes_after}
-use Rattle.message_reader.specs.declared.ReadAnswer.TheVariants.{Accepted}
+use Rattle.message_reader.specs.Reader.{acceptance, read_answer, notes_after}
 use Rattle.message_walk.specs.Walk.{entries_in}
 use Rattle.message_walk.specs.Faults.{any, within}
-use Rattle.message_lookup.specs.Lookup.{looked_up}
-use Rattle.message_lookup.specs.declared.Found.TheVariants.{At, Refused}
+use Rattle.message_lookup.specs.Lookup.{place, looked_up}
 use Rattle.message_write.specs.Written.{exact_answer, exact_output, clean_answer, clean_output, clean_padded}
 
 abbrev pub is_byte : ℕ → Bool
@@ -56,7 +53,7 @@ pub record GivesBack (d : Dialect) : Type 0 where
       all is_byte s ≡ true →
       Begins d.table d.most s u r →
       u ≤ length out →
-      exact_answer d s (notes_of d.form r u ++ rest) out ≡ Written u
+      exact_answer d s (notes_of d.form r u ++ rest) out ≡ Ok u
   -- … and leaves exactly the bytes used at the front of the output, and the rest of it as it was.
   -- Shuts out a writer that writes nothing, that pads or cuts, and one whose bitmaps differ from those that were read.
   pub gives_back :
@@ -72,7 +69,7 @@ pub record GivesBack (d : Dialect) : Type 0 where
       notes_room d ≤ length b →
       Begins d.table d.most s u r →
       u ≤ length out →
-      exact_answer d s (notes_after d s b) out ≡ Written u
+      exact_answer d s (notes_after d s b) out ≡ Ok u
   pub read_gives_back :
       (s b out : List ℕ) (u : ℕ) (r : Reading) →
       all is_byte s ≡ true →
@@ -86,7 +83,7 @@ contents_named d v n = contents_in v (entries_in d (within v any) n)
 
 pub record ReadsAs (d : Dialect) (s b : List ℕ) (u : ℕ) (mti : List ℕ) (m : ℕ) (cs : List Content) : Type 0 where
   -- The reader accepts u bytes and m bitmaps …
-  pub accepts : read_answer d s b ≡ Accepted u m
+  pub accepts : read_answer d s b ≡ Ok (acceptance u m)
   -- … and its notes are those of this reading: the same MTI, and for each field its number, where its content stands now and how long it is …
   pub notes : notes_after d s b ≡ lay (notes_of d.form (reading_of d.table mti m cs) u) b
   -- … and there stand exactly these contents.
@@ -99,13 +96,13 @@ pub record WritesMessages (d : Dialect) : Type 0 where
   -- whose fields are those of the notes, in their order and with their lengths. Shuts out a writer whose bitmaps do not name its fields.
   pub is_message :
       (v n out : List ℕ) (u : ℕ) →
-      exact_answer d v n out ≡ Written u →
+      exact_answer d v n out ≡ Ok u →
       Message d.table d.most (take u (exact_output d v n out)) (reading_of d.table (mti_in n) (count_in n) (contents_named d v n))
   -- The reader, given any input s that begins with those bytes (the output itself, or the bytes alone, or with others behind them), and
   -- room for its notes, reads the contents that the notes n name in the values v.
   pub reads_back :
       (v n out s b : List ℕ) (u : ℕ) →
-      exact_answer d v n out ≡ Written u →
+      exact_answer d v n out ≡ Ok u →
       take u s ≡ take u (exact_output d v n out) →
       notes_room d ≤ length b →
       ReadsAs d s b u (mti_in n) (count_in n) (contents_named d v n)
@@ -136,7 +133,7 @@ pub record AgreesWithExact (d : Dialect) : Type 0 where
       ((f : ℕ) → Short d.table f (contents_named d v n) → ⊥) →
       clean_padded d v n out ≡ no_fields
   -- Nothing is short wherever the exact writer writes.
-  pub exact_not_short : (v n out : List ℕ) (u : ℕ) → exact_answer d v n out ≡ Written u → (f : ℕ) → Short d.table f (contents_named d v n) → ⊥
+  pub exact_not_short : (v n out : List ℕ) (u : ℕ) → exact_answer d v n out ≡ Ok u → (f : ℕ) → Short d.table f (contents_named d v n) → ⊥
 
 -- Otherwise the output differs only in the padded fields; the padded set is exactly the set of short fixed fields; no content byte is ever
 -- dropped.
@@ -144,17 +141,17 @@ pub record PadsShortAlone (d : Dialect) : Type 0 where
   -- The exact writer's output is the message with the contents that the notes name …
   pub exact_writes :
       (v n out : List ℕ) (u : ℕ) →
-      exact_answer d v n out ≡ Written u →
+      exact_answer d v n out ≡ Ok u →
       exact_output d v n out ≡ lay (message_with d.table (mti_in n) (count_in n) (contents_named d v n)) out
   -- … and the cleaning writer's is the same with each content cleaned: the MTI, the bitmaps and the fields' order do not differ, …
   pub clean_writes :
       (v n out : List ℕ) (u : ℕ) →
-      clean_answer d v n out ≡ Written u →
+      clean_answer d v n out ≡ Ok u →
       clean_output d v n out ≡ lay (message_with d.table (mti_in n) (count_in n) (cleaned_in d.table (contents_named d v n))) out
   -- … nor any field that is not in the padded set;
   pub only_padded_differ :
       (v n out : List ℕ) (u : ℕ) →
-      clean_answer d v n out ≡ Written u →
+      clean_answer d v n out ≡ Ok u →
       (before : List Content) (f : ℕ) (c : List ℕ) (after : List Content) →
       contents_named d v n ≡ before ++ (content f c ∷ after) →
       bit_of (clean_padded d v n out) f ≡ false →
@@ -164,33 +161,33 @@ pub record PadsShortAlone (d : Dialect) : Type 0 where
       (f : ℕ) (c : List ℕ) →
       (i : ℕ) × ((j : ℕ) × (cleaned d.table f c ≡ replicate i (pad_byte (d.table.class f)) ++ (c ++ replicate j (pad_byte (d.table.class f)))))
   -- What was cleaned the exact writer would have taken.
-  pub cleaned_taken : (f : ℕ) (c : List ℕ) → clean_fault d.table f c ≡ 0 → exact_fault d.table f (cleaned d.table f c) ≡ 0
+  pub cleaned_taken : (f : ℕ) (c : List ℕ) → clean_fault d.table f c ≡ good → exact_fault d.table f (cleaned d.table f c) ≡ good
   -- Where something is written, the padded set has a bit exactly for each short fixed field, …
   pub padded_short :
       (v n out : List ℕ) (u : ℕ) →
-      clean_answer d v n out ≡ Written u →
+      clean_answer d v n out ≡ Ok u →
       (f : ℕ) → bit_of (clean_padded d v n out) f ≡ true → Short d.table f (contents_named d v n)
   pub short_padded :
       (v n out : List ℕ) (u : ℕ) →
-      clean_answer d v n out ≡ Written u →
+      clean_answer d v n out ≡ Ok u →
       (f : ℕ) → Short d.table f (contents_named d v n) → bit_of (clean_padded d v n out) f ≡ true
   -- … and where it is refused, none.
-  pub refused_none : (v n out : List ℕ) (r : Refusal) → clean_answer d v n out ≡ WriteRefused r → clean_padded d v n out ≡ no_fields
+  pub refused_none : (v n out : List ℕ) (r : Refusal) → clean_answer d v n out ≡ Err r → clean_padded d v n out ≡ no_fields
   -- Reading back what was written gives the cleaned contents, …
   pub reads_back :
       (v n out s b : List ℕ) (u : ℕ) →
-      clean_answer d v n out ≡ Written u →
+      clean_answer d v n out ≡ Ok u →
       take u s ≡ take u (clean_output d v n out) →
       notes_room d ≤ length b →
       ReadsAs d s b u (mti_in n) (count_in n) (cleaned_in d.table (contents_named d v n))
   -- … and the exact writer, given what was written and the notes that the reader makes of it, and enough room, writes the same again.
   pub exact_again :
       (v n out s b o : List ℕ) (u : ℕ) →
-      clean_answer d v n out ≡ Written u →
+      clean_answer d v n out ≡ Ok u →
       take u s ≡ take u (clean_output d v n out) →
       notes_room d ≤ length b →
       u ≤ length o →
-      (exact_answer d s (notes_after d s b) o ≡ Written u) × (exact_output d s (notes_after d s b) o ≡ lay (take u s) o)
+      (exact_answer d s (notes_after d s b) o ≡ Ok u) × (exact_output d s (notes_after d s b) o ≡ lay (take u s) o)
 
 abbrev pub end_place : Form → Reading → ℕ
 end_place F r = head_size + note_size F * length r.entries
@@ -203,14 +200,14 @@ pub record LooksUp (d : Dialect) : Type 0 where
       Begins d.table d.most s u r →
       (before : List Entry) (e : Entry) (after : List Entry) →
       r.entries ≡ before ++ (e ∷ after) →
-      looked_up d s (notes_of d.form r u ++ rest) e.number ≡ At e.offset e.size
+      looked_up d s (notes_of d.form r u ++ rest) e.number ≡ Ok (place e.offset e.size)
   -- Any other number is refused with 15, at the end note.
   pub misses :
       (s rest : List ℕ) (u : ℕ) (r : Reading) →
       Begins d.table d.most s u r →
       (f : ℕ) →
       ((before : List Entry) (e : Entry) (after : List Entry) → r.entries ≡ before ++ (e ∷ after) → e.number ≡ f → ⊥) →
-      looked_up d s (notes_of d.form r u ++ rest) f ≡ Refused (refusal field_absent f (end_place d.form r))
+      looked_up d s (notes_of d.form r u ++ rest) f ≡ Err (refusal field_absent f (end_place d.form r))
   -- So it is in the notes that the reader left in a buffer b with room for them.
   pub read_finds :
       (s b : List ℕ) (u : ℕ) (r : Reading) →
@@ -218,14 +215,14 @@ pub record LooksUp (d : Dialect) : Type 0 where
       Begins d.table d.most s u r →
       (before : List Entry) (e : Entry) (after : List Entry) →
       r.entries ≡ before ++ (e ∷ after) →
-      looked_up d s (notes_after d s b) e.number ≡ At e.offset e.size
+      looked_up d s (notes_after d s b) e.number ≡ Ok (place e.offset e.size)
   pub read_misses :
       (s b : List ℕ) (u : ℕ) (r : Reading) →
       notes_room d ≤ length b →
       Begins d.table d.most s u r →
       (f : ℕ) →
       ((before : List Entry) (e : Entry) (after : List Entry) → r.entries ≡ before ++ (e ∷ after) → e.number ≡ f → ⊥) →
-      looked_up d s (notes_after d s b) f ≡ Refused (refusal field_absent f (end_place d.form r))
+      looked_up d s (notes_after d s b) f ≡ Err (refusal field_absent f (end_place d.form r))
 
 -- 01: "bytes after it are ignored", of the end note. The notes are those of a message that begins an input s; the values v are any, so that
 -- a walk may be refused as well, and is then refused alike.
