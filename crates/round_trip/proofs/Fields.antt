@@ -1,6 +1,6 @@
 -- The fields of a message, where they lie in the input: their entries pass the exact writer's walk, and their bytes are written again.
 -- Assumes nothing.
-use Prim.Native.Nat.{ℕ, ◌+◌}
+use Prim.Native.Nat.{ℕ, ◌+◌, ◌≤◌}
 use mathlib.Core.Path.{◌≡◌, refl, sym, ap, ◌∙◌}
 use mathlib.Core.Bool.{true}
 use mathlib.Core.List.{List, [], ◌∷◌, ◌++◌, append_assoc}
@@ -37,12 +37,11 @@ back_more t v m last at f fs ds c rest pre post es al i l e b =
     let k = content_at pre ds c (rest ++ post) v at l e in
     let x = item_exact t f ds c i in
     let spelled : decimal (t.width f) (length c) ++ c ≡ ds ++ c = sym (exact_unpadded t f c x) ∙ item_bytes t f ds c i in
-    let long : length v ≡ at + (length ds + (length c + length (rest ++ post))) =
-    ap length e ∙ omega (arith, length-append pre (ds ++ (c ++ (rest ++ post))), length-append ds (c ++ (rest ++ post)), length-append c (rest ++ post), l) in
+    let long : at + length ds + length c ≤ length v = omega (arith, simp length-append at (ap length e)) in
     record {
       walk =
           walked_more {f = f} {a = at + length ds} {n = length c}
-          (record { allowed = al; ruled = inside_passes v (exact_fault t) (entry f (at + length ds) (length c)) (omega (arith, long)) (rw k x) })
+          (record { allowed = al; ruled = inside_passes v (exact_fault t) (entry f (at + length ds) (length c)) long (rw k x) })
           b.walk;
       body =
           rw (k, b.body)
@@ -55,5 +54,5 @@ pub back : (t : Table) (v : List ℕ) (m : ℕ) {at : ℕ} {fs bs : List ℕ} {e
 back t v m none last r pre post l e = back_none t v m last
 back t v m (more {at = at} {f = f} {fs = fs} {bs = bs} {es = es} ds c rest i b g) last (next a r) pre post l e =
     let j : v ≡ pre ++ (ds ++ (c ++ (rest ++ post))) = e ∙ rw b (simp append_assoc) in
-    let n : length (pre ++ (ds ++ c)) ≡ at + (length ds + length c) = omega (arith, length-append pre (ds ++ c), length-append ds c, l) in
+    let n : length (pre ++ (ds ++ c)) ≡ at + (length ds + length c) = simp length-append (omega arith) in
     rw b (back_more t v m last at f fs ds c rest pre post es a i l j (back t v m g f r (pre ++ (ds ++ c)) post n (j ∙ simp append_assoc)))

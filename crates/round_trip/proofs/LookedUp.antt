@@ -4,12 +4,12 @@ use mathlib.Core.Path.{◌≡◌, refl, ap, ◌∙◌}
 use mathlib.Core.List.{List, [], ◌∷◌, ◌++◌}
 use native.Mathlib.Omega.{arith}
 use lib.ListN.{length, drop, length-append}
-use borrow.Author.Tests.{eq-eqb, ne_eqb}
+use Rattle.std.proofs.lemmas.Bool.Decides.{nat_tests}
 use Rattle.std.specs.Prelude.{Ok, Err}
 use Rattle.refusal.specs.Numbers.{field_absent}
 use Rattle.refusal.specs.Refusals.{refusal}
 use Rattle.field_write.specs.Fields.{exact_fault}
-use Rattle.message_language.specs.Language.{Entry, Reading, Begins}
+use Rattle.message_language.specs.Language.{Entry, entry, Reading, Begins}
 use Rattle.message_contents.proofs.Made.{is_low}
 use Rattle.message_notes.specs.Dialect.{Dialect, notes_room, Sound}
 use Rattle.message_notes.specs.Notes.{notes_of}
@@ -24,45 +24,37 @@ use Rattle.round_trip.specs.RoundTrip.{end_place, LooksUp}
 use Rattle.round_trip.proofs.Noted.{Noted, noted, read_notes}
 use Rattle.round_trip.proofs.Rereading.{exact_inside}
 
--- the first number of entries, and those behind it
-first : List Entry → ℕ
-first [] = 0
-first (e ∷ es) = e.number
-
-behind : List Entry → List Entry
-behind [] = []
-behind (e ∷ es) = es
-
-not_none : (before : List Entry) (e : Entry) (after : List Entry) → [] ≡ before ++ (e ∷ after) → ⊥
-not_none before e after h = omega (arith, ap length h, length-append before (e ∷ after))
-
 module _ (p : Fault) (m : ℕ) where
   -- numbers rise
   above : {last : ℕ} {es : List Entry} → Walkable p m last es → (before : List Entry) (e : Entry) (after : List Entry) → es ≡ before ++ (e ∷ after) → last < e.number
-  unfolding first behind
-  above none before e after h = absurd (not_none before e after h)
-  above {last} (more {f = f} g w) [] e after h =
-      let q : f ≡ e.number = ap first h in
-      omega (arith, is_low m last f g.allowed)
-  above {last} (more {f = f} g w) (c ∷ before) e after h = omega (arith, is_low m last f g.allowed, above w before e after (ap behind h))
+  above none before e after h = absurd (omega (arith, simp length-append at (ap length h)))
+  above {last} (more {f = f} {a = a} {n = n} g w) [] e after h =
+      let q : entry f a n ≡ e = cc in
+      omega (arith, ap (λ (x : Entry). x.number) q, is_low m last f g.allowed)
+  above {last} (more {f = f} {es = es} g w) (c ∷ before) e after h =
+      let q : es ≡ before ++ (e ∷ after) = cc in
+      omega (arith, is_low m last f g.allowed, above w before e after q)
 
   -- so an entry is the first of its number
   found : (at : ℕ) {last : ℕ} {es : List Entry} → Walkable p m last es → (before : List Entry) (e : Entry) (after : List Entry) → es ≡ before ++ (e ∷ after)
       → found_in e.number at es ≡ Ok (place e.offset e.size)
-  unfolding found_in behind
-  found at none before e after h = absurd (not_none before e after h)
-  found at (more g w) [] e after h = ap (found_in e.number at) h ∙ rw (found_in, eq-eqb e.number e.number refl)
-  found at (more {f = f} g w) (c ∷ before) e after h =
-      let b : f < e.number = above w before e after (ap behind h) in
-      rw (found_in, ne_eqb f e.number (λ q. omega arith)) (found at w before e after (ap behind h))
+  unfolding found_in
+  found at none before e after h = absurd (omega (arith, simp length-append at (ap length h)))
+  found at (more {f = f} {a = a} {n = n} g w) [] e after h =
+      let q : entry f a n ≡ e = cc in
+      rw (← q) (grind (arith, nat_tests))
+  found at (more {f = f} {es = es} g w) (c ∷ before) e after h =
+      let q : es ≡ before ++ (e ∷ after) = cc in
+      let b : f < e.number = above w before e after q in
+      grind (arith, nat_tests, b, found at w before e after q)
 
 missed : (f at : ℕ) (es : List Entry) → ((before : List Entry) (e : Entry) (after : List Entry) → es ≡ before ++ (e ∷ after) → e.number ≡ f → ⊥)
     → found_in f at es ≡ Err (refusal field_absent f at)
 unfolding found_in
 missed f at [] no_one = refl
 missed f at (c ∷ es) no_one =
-    rw (ne_eqb c.number f (no_one [] c es refl))
-    (missed f at es (λ before e after h. no_one (c ∷ before) e after (ap (λ (l : List Entry). c ∷ l) h)))
+    let r = missed f at es (λ before e after h. no_one (c ∷ before) e after (ap (λ (l : List Entry). c ∷ l) h)) in
+    grind (arith, nat_tests, no_one [] c es refl, r)
 
 module _ (d : Dialect) (sound : Sound d) (s : List ℕ) (u : ℕ) (r : Reading) (x : Begins d.table d.most s u r) where
   -- Lookup asks less of a field than the exact writer, whose walk over the notes of a message comes to their end.

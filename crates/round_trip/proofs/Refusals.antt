@@ -1,12 +1,11 @@
 -- No refusal changes a lent buffer (specs/Refusals.antt). Assumes nothing.
 use Prim.Native.Nat.{ℕ}
-use mathlib.Core.Path.{◌≡◌, refl}
+use mathlib.Core.Path.{◌≡◌}
 use mathlib.Core.List.{List}
-use lib.ListN.{length}
-use lib.Dec.{leb}
-use Rattle.std.specs.Prelude.{Ok, Err}
+use native.Mathlib.Omega.{arith}
+use Rattle.std.proofs.lemmas.Bool.Decides.{nat_tests}
+use Rattle.std.specs.Prelude.{Err}
 use Rattle.octets.specs.Lists.{placed}
-use Rattle.octets.proofs.Cases.{by_bool}
 use Rattle.refusal.specs.Refusals.{Test, converted, converted_into}
 use Rattle.refusal.specs.declared.Refusal.{Refusal}
 use Rattle.message_notes.specs.Dialect.{Dialect}
@@ -31,8 +30,7 @@ kept_clean d v n out r e = refused_kept (walked d (cleanly d v) n) (clean_messag
 -- bytes are laid only where they fit, and there the length is answered
 kept_converted : (t : Test) (c out : List ℕ) (r : Refusal) → converted t c out ≡ Err r → converted_into t c out ≡ out
 unfolding converted converted_into placed
-kept_converted (Ok x) c out r e = by_bool (leb (length c) (length out)) (λ f. cc (rw f at e)) (λ f. rw f)
-kept_converted (Err x) c out r e = refl
+kept_converted t c out r e = grind (arith, nat_tests)
 
 pub keeps : (d : Dialect) → Keeps d
 keeps d = record { notes = kept_notes d; exact_output_lem = kept_exact d; clean_output_lem = kept_clean d; conversion = kept_converted }

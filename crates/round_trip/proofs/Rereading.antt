@@ -103,52 +103,42 @@ module _ (d : Dialect) (p : Fault) (n out o : List ℕ) (u : ℕ) (cs : List Con
                 ∙ contents_stand t sound.small (mti_in n) (count_in n) cs head.four head.digits head.least head.three w.taken (drop u s);
           }
 
--- Either writer takes all that the notes name.
+-- A writer whose walk asks p of a field, and which writes the contents as `put` has them, takes all that the notes name.
+module _ (d : Dialect) (v n out : List ℕ) (u : ℕ) (p : Fault) (put : List Content → List Content) (inside : (e : Entry) → p e ≡ good → within v any e ≡ good) where
+  abbrev of : List Entry → List ℕ
+  of es = message_with d.table (mti_in n) (count_in n) (put (contents_in v es))
+
+  module _ (h : answered (walked d p n) (of (entries_in d p n)) out ≡ Ok u) where
+    named : entries_in d (within v any) n ≡ entries_in d p n
+    named =
+        let was = written_answered (walked d p n) (of (entries_in d p n)) out u h in
+        weaker_entries d p n (ended was.at u) was.ended (within v any) inside
+
+    wrote : Taken d.table (count_in n) 0 (put (contents_in v (entries_in d p n)))
+        → Wrote d p n out (laid_out (walked d p n) (of (entries_in d p n)) out) u (put (contents_named d v n))
+    wrote taken = record { answer = rw named h; output = rw named; taken = rw named taken }
+
+-- Either of the two is one.
 module _ (d : Dialect) (v n out : List ℕ) (u : ℕ) where
-  abbrev m : List Content → List ℕ
-  m = message_with d.table (mti_in n) (count_in n)
-
   module _ (h : exact_answer d v n out ≡ Ok u) where
-    exact_was : Answered (walked d (exactly d v) n) (exact_message d v n) out u
-    unfolding exact_answer
-    exact_was = written_answered (walked d (exactly d v) n) (exact_message d v n) out u h
-
     pub exact_named : entries_in d (within v any) n ≡ entries_in d (exactly d v) n
-    exact_named = weaker_entries d (exactly d v) n (ended exact_was.at u) exact_was.ended (within v any) (exact_inside d v)
-
-    exact_is : exact_message d v n ≡ m (contents_named d v n)
-    unfolding exact_message
-    exact_is = ap (λ (es : List Entry). m (contents_in v es)) (sym exact_named)
+    unfolding exact_answer exact_message
+    exact_named = named d v n out u (exactly d v) (λ cs. cs) (exact_inside d v) h
 
     pub exact_wrote : Wrote d (exactly d v) n out (exact_output d v n out) u (contents_named d v n)
-    unfolding exact_answer exact_output exactly
+    unfolding exact_answer exact_output exact_message exactly
     exact_wrote =
-        record {
-          answer = ap (λ (l : List ℕ). answered (walked d (exactly d v) n) l out) (sym exact_is) ∙ h;
-          output = ap (λ (l : List ℕ). laid_out (walked d (exactly d v) n) l out) exact_is;
-          taken = rw exact_named (exact_taken d.table v (count_in n) (entries_walkable d (exactly d v) n));
-        }
+        wrote d v n out u (exactly d v) (λ cs. cs) (exact_inside d v) h (exact_taken d.table v (count_in n) (entries_walkable d (exactly d v) n))
 
   module _ (h : clean_answer d v n out ≡ Ok u) where
-    clean_was : Answered (walked d (cleanly d v) n) (clean_message d v n) out u
-    unfolding clean_answer
-    clean_was = written_answered (walked d (cleanly d v) n) (clean_message d v n) out u h
-
     pub clean_named : entries_in d (within v any) n ≡ entries_in d (cleanly d v) n
-    clean_named = weaker_entries d (cleanly d v) n (ended clean_was.at u) clean_was.ended (within v any) (clean_inside d v)
-
-    clean_is : clean_message d v n ≡ m (cleaned_in d.table (contents_named d v n))
-    unfolding clean_message message_of
-    clean_is = ap (λ (es : List Entry). m (cleaned_in d.table (contents_in v es))) (sym clean_named)
+    unfolding clean_answer clean_message message_of
+    clean_named = named d v n out u (cleanly d v) (cleaned_in d.table) (clean_inside d v) h
 
     pub clean_wrote : Wrote d (cleanly d v) n out (clean_output d v n out) u (cleaned_in d.table (contents_named d v n))
-    unfolding clean_answer clean_output cleanly
+    unfolding clean_answer clean_output clean_message message_of cleanly
     clean_wrote =
-        record {
-          answer = ap (λ (l : List ℕ). answered (walked d (cleanly d v) n) l out) (sym clean_is) ∙ h;
-          output = ap (λ (l : List ℕ). laid_out (walked d (cleanly d v) n) l out) clean_is;
-          taken = rw clean_named (clean_taken d.table v (count_in n) (entries_walkable d (cleanly d v) n));
-        }
+        wrote d v n out u (cleanly d v) (cleaned_in d.table) (clean_inside d v) h (clean_taken d.table v (count_in n) (entries_walkable d (cleanly d v) n))
 
 pub writes_messages : (d : Dialect) → Sound d → WritesMessages d
 writes_messages d sound =

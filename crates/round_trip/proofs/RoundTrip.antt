@@ -5,9 +5,10 @@ use mathlib.Core.Bool.{Bool, true}
 use mathlib.Core.List.{List, [], ◌∷◌, ◌++◌}
 use lib.ListN.{length, take, drop}
 use lib.Seq.{take_at}
+use native.Mathlib.Omega.{arith}
+use Rattle.std.proofs.lemmas.Bool.Decides.{nat_tests}
 use Rattle.std.specs.Prelude.{Ok}
 use Rattle.octets.specs.Lists.{all, lay}
-use Rattle.octets.proofs.Cases.{both_left, both_right}
 use Rattle.message_language.specs.Language.{Reading, Begins}
 use Rattle.message_contents.specs.Contents.{numbers_of, bitmaps_with, message_with}
 use Rattle.message_contents.proofs.Cleaning.{contents_numbers}
@@ -23,11 +24,11 @@ use Rattle.round_trip.proofs.Noted.{Noted, noted, three, parts, read_notes}
 
 all_left : (p : ℕ → Bool) (x y : List ℕ) → all p (x ++ y) ≡ true → all p x ≡ true
 all_left p [] y a = refl
-all_left p (z ∷ x) y a = rw (both_left (p z) (all p (x ++ y)) a) (all_left p x y (both_right (p z) (all p (x ++ y)) a))
+all_left p (z ∷ x) y a = grind (arith, nat_tests, all_left p x y)
 
 all_right : (p : ℕ → Bool) (x y : List ℕ) → all p (x ++ y) ≡ true → all p y ≡ true
 all_right p [] y a = a
-all_right p (z ∷ x) y a = all_right p x y (both_right (p z) (all p (x ++ y)) a)
+all_right p (z ∷ x) y a = grind (arith, nat_tests, all_right p x y)
 
 module _ (d : Dialect) (sound : Sound d) (s : List ℕ) (u : ℕ) (r : Reading) (x : Begins d.table d.most s u r) where
   -- What the exact writer writes with the notes of a message, where the bitmaps that it makes are the message's.

@@ -1,18 +1,18 @@
 -- The short fields among the entries that notes name: which they are, and what the two writers ask where there are none. Assumes nothing.
-use Prim.Native.Nat.{ℕ, ◌+◌, ◌<◌}
+use Prim.Native.Nat.{ℕ, ◌<◌}
 use mathlib.Core.Path.{◌≡◌, refl, sym, ap, ◌∙◌}
-use mathlib.Core.Bool.{Bool, true, false}
+use mathlib.Core.Bool.{true, false}
 use mathlib.Core.List.{List, [], ◌∷◌, ◌++◌}
 use native.Mathlib.Omega.{arith}
-use lib.Dec.{eqb, leb, ltb}
 use lib.ListN.{length, length-append}
-use borrow.Author.Tests.{le-leb, lt-leb, eq-eqb, ne_eqb, eqb-true, lt-ltb, ltb-true}
-use Rattle.octets.specs.Lists.{either, all}
-use Rattle.octets.proofs.Cases.{false_true, by_bool, by_eq, by_le, both_left, both_right}
+use Rattle.std.proofs.lemmas.Bool.Decides.{nat_tests}
+use borrow.Author.Tests.{eq-eqb, ne_eqb}
+use Rattle.octets.specs.Lists.{all}
+use Rattle.octets.proofs.Cases.{false_true, by_bool, by_eq}
 use Rattle.refusal.specs.Refusals.{Test, good}
 use Rattle.field_table.specs.Table.{Table}
 use Rattle.field_write.specs.Fields.{is_allowed_length, exact_fault, clean_fault, is_short}
-use Rattle.field_write.proofs.Allowed.{allowed_most, is_allowed, not_short_long, exact_not_short}
+use Rattle.field_write.proofs.Allowed.{exact_not_short}
 use Rattle.bitmap.specs.Bitmaps.{is_field, is_in}
 use Rattle.message_language.specs.Language.{Entry, entry}
 use Rattle.message_contents.specs.Contents.{Content, content, content_of, contents_in, cleaned_in, short_in}
@@ -27,34 +27,23 @@ use Rattle.round_trip.specs.RoundTrip.{Short}
 
 -- a content is short where its field is fixed and it is under the table's length
 module _ (t : Table) (f n : ℕ) where
-  short_fixed : is_short t f n ≡ true → t.width f ≡ 0
+  short_says : is_short t f n ≡ true → (t.width f ≡ 0) × (n < t.most f)
   unfolding is_short
-  short_fixed y = eqb-true (t.width f) 0 (both_left (eqb (t.width f) 0) (ltb n (t.most f)) y)
-
-  short_under : is_short t f n ≡ true → n < t.most f
-  unfolding is_short
-  short_under y = ltb-true n (t.most f) (both_right (eqb (t.width f) 0) (ltb n (t.most f)) y)
+  short_says y = grind (arith, nat_tests)
 
   pub is_short_lem : t.width f ≡ 0 → n < t.most f → is_short t f n ≡ true
   unfolding is_short
-  is_short_lem z l = rw (eq-eqb (t.width f) 0 z, lt-ltb n (t.most f) l)
+  is_short_lem z l = grind (arith, nat_tests)
 
 -- of a content that is not short both writers ask the same
 long_alike : (t : Table) (f : ℕ) (c : List ℕ) → is_short t f (length c) ≡ false → clean_fault t f c ≡ exact_fault t f c
-unfolding exact_fault clean_fault
-long_alike t f c h =
-    by_le (length c) (t.most f)
-    (λ l.
-    let a : is_allowed_length t f (length c) ≡ true = is_allowed t f (length c) (λ z. let g = not_short_long t f (length c) h z in omega arith) l in
-    rw (a, le-leb (length c) (t.most f) l))
-    (λ g. by_bool (is_allowed_length t f (length c))
-    (λ a. let l = allowed_most t f (length c) a in absurd (omega arith))
-    (λ a. rw (a, lt-leb (length c) (t.most f) g)))
+unfolding exact_fault clean_fault is_allowed_length is_short
+long_alike t f c h = grind (arith, nat_tests)
 
 -- whatever is asked of contents, the same is found of one that lies outside the values
 pub outside_alike : (v : List ℕ) (p q : ℕ → List ℕ → Test) (e : Entry) → (within v any e ≡ good → ⊥) → within v q e ≡ within v p e
 unfolding within
-outside_alike v p q e h = by_bool (leb (e.offset + e.size) (length v)) (λ y. absurd (h (rw y))) (λ y. rw y)
+outside_alike v p q e h = grind (arith, nat_tests)
 
 inside_alike : (v : List ℕ) (p q : ℕ → List ℕ → Test) (e : Entry) → q e.number (content_of v e.offset e.size) ≡ p e.number (content_of v e.offset e.size)
     → within v q e ≡ within v p e
@@ -69,8 +58,7 @@ module _ (t : Table) (v : List ℕ) (m : ℕ) where
   pub short_fields : {last : ℕ} {es : List Entry} → Walkable (within v any) m last es → all is_field (short_in t es) ≡ true
   unfolding short_in
   short_fields none = refl
-  short_fields {last} (more {f = f} {n = n} g w) =
-      by_bool (is_short t f n) (λ y. rw (y, is_field_lem m last f g.allowed) (short_fields w)) (λ x. rw x (short_fields w))
+  short_fields {last} (more {f = f} g w) = grind (arith, nat_tests, is_field_lem m last f g.allowed, short_fields w)
 
   here : {last : ℕ} (f a n : ℕ) (es : List Entry) → Good (within v any) m last f a n → is_short t f n ≡ true → Short t f (contents_in v (entry f a n ∷ es))
   unfolding contents_in
@@ -80,8 +68,8 @@ module _ (t : Table) (v : List ℕ) (m : ℕ) where
         bytes = content_of v a n;
         after = contents_in v es;
         is = refl;
-        fixed = short_fixed t f n y;
-        short = omega (arith, sized {last = last} f a n g, short_under t f n y);
+        fixed = (short_says t f n y).0;
+        short = omega (arith, sized {last = last} f a n g, short_says t f n y);
       }
 
   later : (g f a n : ℕ) (es : List Entry) → Short t f (contents_in v es) → Short t f (contents_in v (entry g a n ∷ es))
@@ -106,17 +94,10 @@ module _ (t : Table) (v : List ℕ) (m : ℕ) where
       (λ d. later g f a n es (listed_short w f (rw (s, ne_eqb g f d) at y))))
       (λ s. later g f a n es (listed_short w f (rw s at y)))
 
-  either_true : (a : Bool) → either a true ≡ true
-  either_true true = refl
-  either_true false = refl
-
-  not_none : (before : List Content) (c : Content) (after : List Content) → [] ≡ before ++ (c ∷ after) → ⊥
-  not_none before c after h = omega (arith, ap length h, length-append before (c ∷ after))
-
   pub short_listed : {last : ℕ} {es : List Entry} → Walkable (within v any) m last es → (f : ℕ) (before : List Content) (c : List ℕ) (after : List Content)
       → contents_in v es ≡ before ++ (content f c ∷ after) → is_short t f (length c) ≡ true → is_in f (short_in t es) ≡ true
   unfolding short_in contents_in
-  short_listed none f before c after e y = absurd (not_none before (content f c) after e)
+  short_listed none f before c after e y = absurd (omega (arith, simp length-append at (ap length e)))
   short_listed {last} (more {f = g} {a = a} {n = n} x w) f [] c after e y =
       let i : content g (content_of v a n) ≡ content f c = cc in
       let j : g ≡ f = ap (λ (z : Content). z.number) i in
@@ -126,28 +107,28 @@ module _ (t : Table) (v : List ℕ) (m : ℕ) where
   short_listed (more {f = g} {a = a} {n = n} {es = es} x w) f (d ∷ before) c after e y =
       let i : contents_in v es ≡ before ++ (content f c ∷ after) = cc in
       let r = short_listed w f before c after i y in
-      by_bool (is_short t g n) (λ s. rw (s, r) (either_true (eqb g f))) (λ s. rw s r)
+      grind (arith, nat_tests, r)
 
   -- where none is short, none is listed, and both writers ask the same
+  not_here : {last : ℕ} (f a n : ℕ) (es : List Entry) → Good (within v any) m last f a n
+      → ((h : ℕ) → Short t h (contents_in v (entry f a n ∷ es)) → ⊥) → is_short t f n ≡ false
+  not_here {last} f a n es g no_short = by_bool (is_short t f n) (λ y. absurd (no_short f (here {last = last} f a n es g y))) (λ s. s)
+
   pub none_listed : {last : ℕ} {es : List Entry} → Walkable (within v any) m last es → ((f : ℕ) → Short t f (contents_in v es) → ⊥) → short_in t es ≡ []
   unfolding short_in
   none_listed none no_short = refl
   none_listed {last} (more {f = f} {a = a} {n = n} {es = es} g w) no_short =
-      by_bool (is_short t f n)
-      (λ y. absurd (no_short f (here {last = last} f a n es g y)))
-      (λ s. rw s (none_listed w (λ h x. no_short h (later f h a n es x))))
+      rw (not_here {last = last} f a n es g no_short) (none_listed w (λ h x. no_short h (later f h a n es x)))
 
   pub none_alike : {last : ℕ} {es : List Entry} → Walkable (within v any) m last es → ((f : ℕ) → Short t f (contents_in v es) → ⊥)
       → Agree (within v (exact_fault t)) (within v (clean_fault t)) es
   unfolding Agree
   none_alike none no_short = tt
   none_alike {last} (more {f = f} {a = a} {n = n} {es = es} g w) no_short =
-      by_bool (is_short t f n)
-      (λ y. absurd (no_short f (here {last = last} f a n es g y)))
-      (λ s. (
+      let s = not_here {last = last} f a n es g no_short in (
         inside_alike v (exact_fault t) (clean_fault t) (entry f a n) (long_alike t f (content_of v a n) (rw (sized {last = last} f a n g) s)),
         none_alike w (λ h x. no_short h (later f h a n es x)),
-      ))
+      )
 
   -- what the exact writer takes is nowhere short
   pub exact_long : {last : ℕ} {es : List Entry} → Walkable (within v (exact_fault t)) m last es → short_in t es ≡ []
