@@ -132,7 +132,10 @@ fn answer_case<'a>(case: &'a Case, notes: &'a mut [u8], out: &'a mut [u8]) -> Op
             let (notes, values) = notes_and_values(case.argument, input)?;
             match message_write::write_clean(values, notes, out) {
                 Ok(cleaned) => {
-                    Answer::Cleaned(Written(out.get(..cleaned.length)), cleaned.padded.to_bytes())
+                    Answer::Cleaned(
+                        Written(out.get(..cleaned.length)),
+                        cleaned.padded.to_bytes(),
+                    )
                 }
                 Err(_) => Answer::Cleaned(Written(None), FieldSet::none().to_bytes()),
             }
