@@ -18,7 +18,6 @@ use Rattle.refusal.specs.Refusals.{plain, Test, good, bad}
 use Rattle.refusal.specs.declared.Cause.{Cause}
 use Rattle.refusal.specs.declared.Refusal.{Refusal}
 use Rattle.refusal.proofs.Tests.{bad_good}
-use Rattle.field_table.specs.Table.{Table}
 use Rattle.bitmap.specs.Bitmaps.{is_field}
 use Rattle.bitmap.proofs.Maps.{field_low}
 use Rattle.message_language.specs.Language.{Entry, entry}
@@ -26,12 +25,11 @@ use Rattle.message_contents.specs.Contents.{number_allowed}
 use Rattle.message_notes.specs.Dialect.{Form, plain_form, head_size, Dialect}
 use Rattle.message_notes.specs.Notes.{is_head, mti_in, count_in, is_marked, note_at}
 use Rattle.message_notes.specs.declared.Note.TheVariants.{Field as FieldNote}
-use Rattle.message_walk.specs.declared.Rule.{Rule}
 use Rattle.message_walk.specs.declared.Judged.{Judged}
 use Rattle.message_walk.specs.declared.Flaw.{Flaw}
 use Rattle.message_walk.specs.declared.Ended.{Ended}
 use Rattle.message_walk.specs.Walk.{Fault, head_number, judged_field, judged, ending, walked}
-use Rattle.message_walk.specs.Faults.{any, asked, within, fault_by}
+use Rattle.message_walk.specs.Faults.{within}
 use Rattle.message_walk.proofs.Steps.{judged_note}
 
 -- `head_fault`, where three bitmaps are taken
@@ -94,26 +92,22 @@ module _ (o n size : ℕ) where
   pub place_inside : good ≡ cond (leb (o + n) size) good (bad outside_values) → o + n ≤ size
   place_inside h = by_le (o + n) size (λ l. l) (λ g. bad_good outside_values (sym (h ∙ rw (lt-leb (o + n) size g))))
 
-pub place_is : (v : List ℕ) (f o n : ℕ) (x : Test) → x ≡ cond (leb (o + n) (length v)) good (bad outside_values) → x ≡ within v any (entry f o n)
-unfolding within
-place_is v f o n x e = e
-
 -- `fault_of`
-module _ (t : Table) (r : Rule) (v : List ℕ) (f o n : ℕ) where
-  pub fault_outside : (c : Cause) → bad c ≡ cond (leb (o + n) (length v)) good (bad outside_values) → bad c ≡ fault_by t v r (entry f o n)
-  unfolding fault_by within
+module _ (q : ℕ → List ℕ → Test) (v : List ℕ) (f o n : ℕ) where
+  pub fault_outside : (c : Cause) → bad c ≡ cond (leb (o + n) (length v)) good (bad outside_values) → bad c ≡ within v q (entry f o n)
+  unfolding within
   fault_outside c h = h ∙ rw (lt-leb (o + n) (length v) (place_outside o n (length v) h))
 
-  pub fault_inside : (x : Test) → good ≡ cond (leb (o + n) (length v)) good (bad outside_values) → x ≡ asked t r f (take (o + n - o) (drop o v)) → x ≡ fault_by t v r (entry f o n)
-  unfolding fault_by within
-  fault_inside x h e = rw (le-leb (o + n) (length v) (place_inside o n (length v) h)) (e ∙ ap (λ (k : ℕ). asked t r f (take k (drop o v))) (add-sub_cancel_left o n))
+  pub fault_inside : (x : Test) → good ≡ cond (leb (o + n) (length v)) good (bad outside_values) → x ≡ q f (take (o + n - o) (drop o v)) → x ≡ within v q (entry f o n)
+  unfolding within
+  fault_inside x h e = rw (le-leb (o + n) (length v) (place_inside o n (length v) h)) (e ∙ ap (λ (k : ℕ). q f (take k (drop o v))) (add-sub_cancel_left o n))
 
 -- 01's form has no mark
 pub plain_marked : (f : ℕ) (s : List ℕ) → is_marked plain_form f s ≡ true
 unfolding is_marked number
 plain_marked f s = refl
 
--- `judge` and `judge_place`: the fault x that was found is what p finds
+-- `judge`: the fault x that was found is what p finds
 pub judged_plain : (p : Fault) (m last : ℕ) (s : List ℕ) (f a n : ℕ) (x : Test) (r : Result Judged Flaw) → note_at plain_form s ≡ FieldNote f a n → x ≡ p (entry f a n)
     → r ≡ judged_field true (λ (e : Entry). x) m last f a n → r ≡ judged plain_form p m last s
 unfolding judged_field

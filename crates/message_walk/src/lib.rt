@@ -1,9 +1,9 @@
 // The walk over notes: judges them, wherever they come from. 01, "Writers walk the notes" and "Lookup walks".
 #![tactic(auto)]
 
-ghost use Rattle.std.specs.Prelude.{◌≡◌, true, cond, ◌+◌, ◌≤◌, length, drop, leb};
+ghost use Rattle.std.specs.Prelude.{◌≡◌, ℕ, List, true, cond, ◌+◌, ◌≤◌, length, drop, leb};
 ghost use Rattle.refusal.specs.Numbers.{outside_values};
-ghost use Rattle.refusal.specs.Refusals.{refusal, good, bad};
+ghost use Rattle.refusal.specs.Refusals.{refusal, Test, good, bad};
 ghost use Rattle.field_table.specs.House.{house};
 ghost use Rattle.field_table.specs.Codes.{decoded};
 ghost use Rattle.message_language.specs.Language.{Entry, entry};
@@ -11,17 +11,56 @@ ghost use Rattle.message_contents.specs.Contents.{number_allowed};
 ghost use Rattle.message_notes.specs.Dialect.{plain_form, head_size, dialect};
 ghost use Rattle.message_notes.specs.Notes.{count_in};
 ghost use Rattle.message_walk.specs.Walk.{head_number, judged_field, judged, ending, walked, entries_in, fields_on, fields_in, gathered_end, gathered_fields};
-ghost use Rattle.message_walk.specs.Faults.{any, asked, within, fault_by};
+ghost use Rattle.message_walk.specs.Faults.{any, asked, within};
 
 use bitmap::FieldSet;
 use message_notes::Note;
 use refusal::{Cause, Refusal};
 
-// What is asked of a content besides its place: what the exact writer asks, or the cleaning writer. Lookup asks nothing.
+// What is asked of a content besides its place in the values.
+pub trait Ask {
+    ghost finds: { Self → ℕ → List ℕ → Test };
+
+    // What is wrong with the content of field number.
+    fn fault(&self, number: usize, content: &[u8]) -> Result<(), Cause>
+        ensures { result ≡ finds self.now number content.now };
+}
+
+// Nothing is asked, as by lookup.
+struct Nothing;
+
+impl Ask for Nothing {
+    ghost finds = { λ s. any };
+
+    fn fault(&self, _number: usize, _content: &[u8]) -> Result<(), Cause> {
+        Ok(())
+    }
+}
+
+// What the exact writer asks, or the cleaning writer: 12 or 8.
 #[derive(Clone, Copy)]
 pub enum Rule {
     Exact,
     Clean,
+}
+
+// A rule, and the table that it goes by.
+#[derive(Clone, Copy)]
+pub struct ByRule<'a> {
+    pub rule: Rule,
+    pub table: &'a [u16],
+}
+
+impl Ask for ByRule<'_> {
+    ghost finds = { λ s. asked (decoded s.table.now) s.rule };
+
+    #[tactic(auto, unfolding(crate::specs::Faults::asked))]
+    fn fault(&self, number: usize, content: &[u8]) -> Result<(), Cause> {
+        match self.rule {
+            Rule::Exact => field_write::exact_fault(number, content, self.table),
+            Rule::Clean => field_write::clean_fault(number, content, self.table),
+        }
+    }
 }
 
 // What a note is found to be that is not refused: a field's, with the place of its content in the values; or the end.
@@ -99,7 +138,7 @@ fn walk_fields(values: &[u8], notes: &[u8]) -> Result<Gathered, Refusal>
     let mut last = 0;
     let mut at = message_notes::HEAD_SIZE;
     loop {
-        match judge_place(values, &notes[at..], count, last) {
+        match judge(values, &notes[at..], count, last, &Nothing) {
             Err(flaw) => return Err(flaw.at(at)),
             Ok(Judged::End(said)) => {
                 let end = Ended { at, said };
@@ -114,16 +153,15 @@ fn walk_fields(values: &[u8], notes: &[u8]) -> Result<Gathered, Refusal>
     }
 }
 
-// Judges the note at the front of rest, where last is the number of the field before it, by the rule and the table lent.
-pub fn judge(
+// Judges the note at the front of rest, where last is the number of the field before it.
+pub fn judge<A: Ask>(
     values: &[u8],
     rest: &[u8],
     count: usize,
     last: usize,
-    rule: Rule,
-    table: &[u16],
+    ask: &A,
 ) -> Result<Judged, Flaw>
-    ensures { result ≡ judged plain_form (fault_by (decoded table.now) values.now rule) count last rest.now }
+    ensures { result ≡ judged plain_form (within values.now (A.finds ask.now)) count last rest.now }
 {
     match message_notes::read_note(rest) {
         Note::Malformed => Err(Flaw {
@@ -136,28 +174,7 @@ pub fn judge(
             offset,
             length,
         } => {
-            let fault = fault_of(values, number, offset, length, rule, table);
-            judge_field(count, last, number, offset, length, fault)
-        }
-    }
-}
-
-// The same where nothing is asked of a content but its place.
-fn judge_place(values: &[u8], rest: &[u8], count: usize, last: usize) -> Result<Judged, Flaw>
-    ensures { result ≡ judged plain_form (within values.now any) count last rest.now }
-{
-    match message_notes::read_note(rest) {
-        Note::Malformed => Err(Flaw {
-            cause: Cause::NoteMalformed,
-            field: 0,
-        }),
-        Note::End(said) => Ok(Judged::End(said)),
-        Note::Field {
-            number,
-            offset,
-            length,
-        } => {
-            let fault = place_fault(values.len(), offset, length);
+            let fault = fault_of(values, number, offset, length, ask);
             judge_field(count, last, number, offset, length, fault)
         }
     }
@@ -201,20 +218,19 @@ fn is_number_allowed(count: usize, last: usize, number: usize) -> bool
     last < number && bitmap::is_field(number) && (number - 1) / 64 < count
 }
 
-// What is wrong with the field: 11, then what the rule asks of its content.
-fn fault_of(
+// What is wrong with the field: 11, then what is asked of its content.
+fn fault_of<A: Ask>(
     values: &[u8],
     number: usize,
     offset: usize,
     length: usize,
-    rule: Rule,
-    table: &[u16],
+    ask: &A,
 ) -> Result<(), Cause>
-    ensures { result ≡ fault_by (decoded table.now) values.now rule (entry number offset length) }
+    ensures { result ≡ within values.now (A.finds ask.now) (entry number offset length) }
 {
     place_fault(values.len(), offset, length)?;
     let end = offset + length;
-    content_fault(rule, number, &values[offset..end], table)
+    ask.fault(number, &values[offset..end])
 }
 
 // 11 where length bytes at offset do not lie within size bytes; the sum may be more than a number holds.
@@ -225,15 +241,4 @@ fn place_fault(size: usize, offset: usize, length: usize) -> Result<(), Cause>
         return Err(Cause::OutsideValues);
     }
     Ok(())
-}
-
-// What the rule finds wrong with a content: 12 or 8.
-#[tactic(auto, unfolding(crate::specs::Faults::asked))]
-fn content_fault(rule: Rule, number: usize, content: &[u8], table: &[u16]) -> Result<(), Cause>
-    ensures { result ≡ asked (decoded table.now) rule number content.now }
-{
-    match rule {
-        Rule::Exact => field_write::exact_fault(number, content, table),
-        Rule::Clean => field_write::clean_fault(number, content, table),
-    }
 }

@@ -17,7 +17,7 @@ ghost use Rattle.message_write.specs.Written.{answered, laid_out, exact_answer, 
 
 use bitmap::{Bitmaps, FieldSet};
 use message_notes::Note;
-use message_walk::{Ended, Judged, Rule};
+use message_walk::{ByRule, Ended, Judged, Rule};
 use refusal::{Cause, Refusal};
 
 // What the cleaning writer answers where it writes: how many bytes, and the set of the fields that it padded.
@@ -44,7 +44,11 @@ pub fn write_exact(values: &[u8], notes: &[u8], out: &mut [u8]) -> Result<usize,
     ensures writes { out.new ≡ exact_output (dialect house) values.now notes.now out.old }
 {
     let table = field_table::house_table();
-    let written = write_by(values, notes, Rule::Exact, &table, out)?;
+    let ask = ByRule {
+        rule: Rule::Exact,
+        table: &table,
+    };
+    let written = write_by(values, notes, &ask, out)?;
     Ok(written.length)
 }
 
@@ -56,24 +60,22 @@ pub fn write_clean(values: &[u8], notes: &[u8], out: &mut [u8]) -> Result<Cleane
     ensures writes { out.new ≡ clean_output (dialect house) values.now notes.now out.old }
 {
     let table = field_table::house_table();
-    write_by(values, notes, Rule::Clean, &table, out)
+    let ask = ByRule {
+        rule: Rule::Clean,
+        table: &table,
+    };
+    write_by(values, notes, &ask, out)
 }
 
 // Writes by a rule that takes no content which the cleaning writer refuses.
-fn write_by(
-    values: &[u8],
-    notes: &[u8],
-    rule: Rule,
-    table: &[u16],
-    out: &mut [u8],
-) -> Result<Cleaned, Refusal>
-    requires { (f : ℕ) (c : List ℕ) → asked (decoded table.now) rule f c ≡ good → asked (decoded table.now) Rule.Clean f c ≡ good }
-    ensures answers { cleaned_answer result ≡ answer_by (decoded table.now) values.now rule notes.now out.old }
-    ensures padded { cleaned_padded result ≡ padded_by (decoded table.now) values.now rule notes.now out.old }
-    ensures writes { out.new ≡ output_by (decoded table.now) values.now rule notes.now out.old }
+fn write_by(values: &[u8], notes: &[u8], ask: &ByRule, out: &mut [u8]) -> Result<Cleaned, Refusal>
+    requires { (f : ℕ) (c : List ℕ) → asked (decoded ask.now.table.now) ask.now.rule f c ≡ good → asked (decoded ask.now.table.now) Rule.Clean f c ≡ good }
+    ensures answers { cleaned_answer result ≡ answer_by (decoded ask.now.table.now) values.now ask.now.rule notes.now out.old }
+    ensures padded { cleaned_padded result ≡ padded_by (decoded ask.now.table.now) values.now ask.now.rule notes.now out.old }
+    ensures writes { out.new ≡ output_by (decoded ask.now.table.now) values.now ask.now.rule notes.now out.old }
 {
-    let weighed = weigh(values, notes, rule, table)?;
-    let length = write_ended(values, notes, &weighed, table, out)?;
+    let weighed = weigh(values, notes, ask)?;
+    let length = write_ended(values, notes, &weighed, ask.table, out)?;
     Ok(Cleaned {
         length,
         padded: weighed.short,
@@ -81,19 +83,19 @@ fn write_by(
 }
 
 // Walks the notes by the rule, and gathers what is needed to write.
-fn weigh(values: &[u8], notes: &[u8], rule: Rule, table: &[u16]) -> Result<Weighed, Refusal>
-    ensures end { weighed_end result ≡ walked (dialect (decoded table.now)) (fault_by (decoded table.now) values.now rule) notes.now }
-    ensures sums { IfOk result (λ w. Sums (decoded table.now) (entries_by (decoded table.now) values.now rule notes.now) w.fields.bits w.short.bits w.size) }
+fn weigh(values: &[u8], notes: &[u8], ask: &ByRule) -> Result<Weighed, Refusal>
+    ensures end { weighed_end result ≡ walked (dialect (decoded ask.now.table.now)) (fault_by (decoded ask.now.table.now) values.now ask.now.rule) notes.now }
+    ensures sums { IfOk result (λ w. Sums (decoded ask.now.table.now) (entries_by (decoded ask.now.table.now) values.now ask.now.rule notes.now) w.fields.bits w.short.bits w.size) }
 {
     message_walk::head_fault(notes)?;
-    weigh_fields(values, notes, rule, table)
+    weigh_fields(values, notes, ask)
 }
 
 // The same behind a good head.
-fn weigh_fields(values: &[u8], notes: &[u8], rule: Rule, table: &[u16]) -> Result<Weighed, Refusal>
+fn weigh_fields(values: &[u8], notes: &[u8], ask: &ByRule) -> Result<Weighed, Refusal>
     requires { head_size ≤ length notes.now }
-    ensures end { weighed_end result ≡ ending plain_form (fault_by (decoded table.now) values.now rule) (count_in notes.now) (length notes.now) 0 head_size (drop head_size notes.now) }
-    ensures sums { IfOk result (λ w. Sums (decoded table.now) (entries_by (decoded table.now) values.now rule notes.now) w.fields.bits w.short.bits w.size) }
+    ensures end { weighed_end result ≡ ending plain_form (fault_by (decoded ask.now.table.now) values.now ask.now.rule) (count_in notes.now) (length notes.now) 0 head_size (drop head_size notes.now) }
+    ensures sums { IfOk result (λ w. Sums (decoded ask.now.table.now) (entries_by (decoded ask.now.table.now) values.now ask.now.rule notes.now) w.fields.bits w.short.bits w.size) }
 {
     let count = message_notes::count_in(notes);
     let mut fields = FieldSet::none();
@@ -102,7 +104,7 @@ fn weigh_fields(values: &[u8], notes: &[u8], rule: Rule, table: &[u16]) -> Resul
     let mut last = 0;
     let mut at = message_notes::HEAD_SIZE;
     loop {
-        match message_walk::judge(values, &notes[at..], count, last, rule, table) {
+        match message_walk::judge(values, &notes[at..], count, last, ask) {
             Err(flaw) => return Err(flaw.at(at)),
             Ok(Judged::End(said)) => {
                 let end = Ended { at, said };
@@ -115,8 +117,8 @@ fn weigh_fields(values: &[u8], notes: &[u8], rule: Rule, table: &[u16]) -> Resul
             }
             Ok(Judged::Passed { number, length, .. }) => {
                 fields = fields.with(number);
-                short = with_short(short, number, length, table);
-                size += field_write::written_size(number, length, table);
+                short = with_short(short, number, length, ask.table);
+                size += field_write::written_size(number, length, ask.table);
                 last = number;
                 at += message_notes::FIELD_NOTE_SIZE;
             }

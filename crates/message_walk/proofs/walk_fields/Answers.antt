@@ -14,18 +14,18 @@ loop-flaw-init c = walking_first c.requires (naming_first c.none-fields.ensures)
 pub returns-in-Err : goal.returns-in-Err
 unfolding fields_on
 returns-in-Err c =
-    let turn = turn_of c.loop-flaw.invariant (counted _ _ _ _ _ _ _ c.judge_place.ensures c.count_in-count.ensures) in
+    let turn = turn_of c.loop-flaw.invariant (counted _ _ _ _ _ _ _ c.judge.ensures c.count_in-count.ensures) in
     record { end = ap Err c.at.ensures ∙ turn_refused turn c.in-Err.is; fields = refl }
 
 pub returns-in-Ok-End : goal.returns-in-Ok-End
 unfolding fields_on
 returns-in-Ok-End c =
-    let turn = turn_of c.loop-flaw.invariant (counted _ _ _ _ _ _ _ c.judge_place.ensures c.count_in-count.ensures) in
+    let turn = turn_of c.loop-flaw.invariant (counted _ _ _ _ _ _ _ c.judge.ensures c.count_in-count.ensures) in
     let is = c.in-Ok-End.is ∙ ap Ok c.in-Ok-End.field-0-is in
     record { end = turn_end turn is; fields = naming_done (numbers_are _ _ _ (entries_good _ _ _)) (turn_done turn is) }
 
 pub loop-flaw-preserved : goal.loop-flaw-preserved
 loop-flaw-preserved c =
-    let turn = turn_of c.loop-flaw.invariant (counted _ _ _ _ _ _ _ c.judge_place.ensures c.count_in-count.ensures) in
+    let turn = turn_of c.loop-flaw.invariant (counted _ _ _ _ _ _ _ c.judge.ensures c.count_in-count.ensures) in
     let is = c.in-Ok-Passed.is ∙ ap Ok c.in-Ok-Passed.field-0-is in
     turn_next turn is (naming_next (turn_here turn is) c.with-fields.ensures)

@@ -12,11 +12,11 @@ use Rattle.message_write.proofs.weigh.Goals as goal
 pub returns-in_err-head_fault-clause-end : goal.returns-in_err-head_fault-clause-end
 returns-in_err-head_fault-clause-end c =
     ap weighed_end (handed_on c.from_residual.ensures.1)
-    ∙ walk_head (dialect (decoded c.args.table.now)) (fault_by (decoded c.args.table.now) c.args.values.now c.args.rule) _ c.in_err-head_fault.ensures
+    ∙ walk_head (dialect (decoded c.args.ask.now.table.now)) (fault_by (decoded c.args.ask.now.table.now) c.args.values.now c.args.ask.now.rule) _ c.in_err-head_fault.ensures
 
 pub weigh_fields-requires : goal.weigh_fields-requires
 weigh_fields-requires c = head_long 3 _ c.in_ok-head_fault.ensures
 
 pub returns-clause-end : goal.returns-clause-end
 returns-clause-end c =
-    walk_ended (dialect (decoded c.args.table.now)) (fault_by (decoded c.args.table.now) c.args.values.now c.args.rule) _ c.in_ok-head_fault.ensures c.weigh_fields.ensures.end
+    walk_ended (dialect (decoded c.args.ask.now.table.now)) (fault_by (decoded c.args.ask.now.table.now) c.args.values.now c.args.ask.now.rule) _ c.in_ok-head_fault.ensures c.weigh_fields.ensures.end

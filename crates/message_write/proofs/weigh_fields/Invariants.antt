@@ -11,9 +11,9 @@ use Rattle.message_write.proofs.Weighing.{Weighing}
 use Rattle.message_write.proofs.weigh_fields.Given as goal
 
 abbrev pub invariant-loop-flaw : goal.invariant-loop-flaw
-invariant-loop-flaw l = Walking plain_form (fault_by (decoded l.table) l.values l.rule) l.notes
-    (ending plain_form (fault_by (decoded l.table) l.values l.rule) (count_in l.notes) (length l.notes) 0 head_size (drop head_size l.notes))
-    (Weighing (decoded l.table) (entries_by (decoded l.table) l.values l.rule l.notes) l.fields.bits l.short.bits l.size l.last)
+invariant-loop-flaw l = Walking plain_form (fault_by (decoded l.ask.table.now) l.values l.ask.rule) l.notes
+    (ending plain_form (fault_by (decoded l.ask.table.now) l.values l.ask.rule) (count_in l.notes) (length l.notes) 0 head_size (drop head_size l.notes))
+    (Weighing (decoded l.ask.table.now) (entries_by (decoded l.ask.table.now) l.values l.ask.rule l.notes) l.fields.bits l.short.bits l.size l.last)
     l.at l.last
 
 abbrev pub decreases-loop-flaw : goal.decreases-loop-flaw
