@@ -1,7 +1,7 @@
 -- The first walk of a writer: the fields named, the short ones and the size, gathered one by one. Assumes nothing.
 use Prim.Native.Nat.{ℕ, ◌+◌, ◌*◌, ◌≤◌}
 use mathlib.Core.Path.{◌≡◌, refl, sym, ◌∙◌}
-use mathlib.Core.Bool.{Bool, true, false, cond}
+use mathlib.Core.Bool.{true, cond}
 use mathlib.Core.List.{List, [], ◌∷◌}
 use native.Mathlib.Omega.{arith}
 use lib.Dec.{leb}
@@ -22,14 +22,6 @@ use Rattle.message_walk.specs.Walk.{Fault}
 use Rattle.message_walk.proofs.Steps.{Good}
 use Rattle.message_walk.proofs.Naming.{Naming, naming_first, naming_next, naming_done}
 use Rattle.message_write.specs.Written.{size_in, size_most, Sums}
-
--- `with_short`
-module _ (t : Table) (s s' : List ℕ) (f z : ℕ) (flag : Bool) (tested : flag ≡ is_short t f z) where
-  pub short_one : flag ≡ true → s' ≡ with_field s f → s' ≡ cond (is_short t f z) (with_field s f) s
-  short_one y e = rw (← tested, y) e
-
-  pub short_not : flag ≡ false → s ≡ cond (is_short t f z) (with_field s f) s
-  short_not y = rw (← tested, y)
 
 -- the short ones among fields are fields
 pub short_are : (t : Table) (es : List Entry) → all is_field (numbers_of es) ≡ true → all is_field (short_in t es) ≡ true
