@@ -1,55 +1,37 @@
--- Reading a note: the ends of its readers with the facts as the code has them, and that what was written is read back. Assumes nothing.
+-- Reading a note: what its definition is at the front of a field's note and of the end's, and that what was written is read back. Assumes nothing.
 use Prim.Native.Nat.{ℕ, ◌+◌, ◌≤◌, ◌<◌}
 use mathlib.Core.Path.{◌≡◌, refl, sym, ap, ◌∙◌}
-use mathlib.Core.List.{List, [], ◌∷◌, ◌++◌}
+use mathlib.Core.List.{List, ◌++◌}
 use native.Mathlib.Omega.{arith}
 use lib.ListN.{length, take, drop, get_or, length-append, length-drop}
 use lib.Seq.{take_at, take-append-le, drop-append-le}
-use borrow.Author.Tests.{eq-eqb, ne_eqb, lt-ltb, le-ltb}
+use borrow.Author.Tests.{eq-eqb, ne_eqb, le-ltb}
 use Rattle.octets.specs.Numbers.{big_endian, big_endian_of}
-use Rattle.octets.proofs.Cases.{by_eq}
 use Rattle.octets.proofs.Numbers.{number_digits}
 use Rattle.message_language.specs.Language.{Entry}
 use Rattle.message_notes.specs.declared.Note.{Note}
-use Rattle.message_notes.specs.declared.Note.TheVariants.{Field, End, Malformed}
+use Rattle.message_notes.specs.declared.Note.TheVariants.{Field, End}
 use Rattle.message_notes.specs.Dialect.{Form, note_size, end_kind, end_size}
 use Rattle.message_notes.specs.Notes.{field_note, end_note, entry_of, field_note_at, end_note_at, note_at}
 use Rattle.message_notes.proofs.Sizes.{bytes_long, field_long}
 use Rattle.message_notes.proofs.Spelling.{Fits, entry_back}
 
--- the ends of `read_note`
-pub note_missing : (F : Form) (s : List ℕ) → length s ≡ 0 → Malformed ≡ note_at F s
-unfolding note_at field_note_at
-note_missing F [] h = by_eq 0 F.kind (λ e. rw (eq-eqb 0 F.kind e, lt-ltb 0 (note_size F) (omega arith))) (λ n. rw (ne_eqb 0 F.kind n))
-note_missing F (x ∷ s) h = absurd (omega arith)
-
-pub note_field : (F : Form) (s : List ℕ) (r : Note) → get_or s 0 0 ≡ F.kind → r ≡ field_note_at F s → r ≡ note_at F s
+-- by the kind
+note_field : (F : Form) (s : List ℕ) (r : Note) → get_or s 0 0 ≡ F.kind → r ≡ field_note_at F s → r ≡ note_at F s
 unfolding note_at
 note_field F s r e h = rw (eq-eqb (get_or s 0 0) F.kind e) h
 
-pub note_end : (F : Form) (s : List ℕ) (r : Note) → (get_or s 0 0 ≡ F.kind → ⊥) → get_or s 0 0 ≡ end_kind → r ≡ end_note_at s → r ≡ note_at F s
+note_end : (F : Form) (s : List ℕ) (r : Note) → (get_or s 0 0 ≡ F.kind → ⊥) → get_or s 0 0 ≡ end_kind → r ≡ end_note_at s → r ≡ note_at F s
 unfolding note_at
 note_end F s r n e h = rw (ne_eqb (get_or s 0 0) F.kind n, eq-eqb (get_or s 0 0) end_kind e) h
 
-pub note_other : (F : Form) (s : List ℕ) → (get_or s 0 0 ≡ F.kind → ⊥) → (get_or s 0 0 ≡ end_kind → ⊥) → Malformed ≡ note_at F s
-unfolding note_at
-note_other F s n e = rw (ne_eqb (get_or s 0 0) F.kind n, ne_eqb (get_or s 0 0) end_kind e)
-
--- the ends of `read_field_note` and `read_end_note`
-pub field_cut : (F : Form) (s : List ℕ) → length s < note_size F → Malformed ≡ field_note_at F s
-unfolding field_note_at
-field_cut F s h = rw (lt-ltb (length s) (note_size F) h)
-
-pub field_whole : (F : Form) (s : List ℕ) (f o n : ℕ) → note_size F ≤ length s → f ≡ big_endian_of (take 1 (drop 1 s)) → o ≡ big_endian_of (take 4 (drop 2 s))
+-- behind it
+field_whole : (F : Form) (s : List ℕ) (f o n : ℕ) → note_size F ≤ length s → f ≡ big_endian_of (take 1 (drop 1 s)) → o ≡ big_endian_of (take 4 (drop 2 s))
     → n ≡ big_endian_of (take 2 (drop 6 s)) → Field f o n ≡ field_note_at F s
 unfolding field_note_at
 field_whole F s f o n h ef eo en = rw (le-ltb (length s) (note_size F) h, ef, eo, en)
 
-pub end_cut : (s : List ℕ) → length s < end_size → Malformed ≡ end_note_at s
-unfolding end_note_at
-end_cut s h = rw (lt-ltb (length s) end_size h)
-
-pub end_whole : (s : List ℕ) (u : ℕ) → end_size ≤ length s → u ≡ big_endian_of (take 4 (drop 1 s)) → End u ≡ end_note_at s
+end_whole : (s : List ℕ) (u : ℕ) → end_size ≤ length s → u ≡ big_endian_of (take 4 (drop 1 s)) → End u ≡ end_note_at s
 unfolding end_note_at
 end_whole s u h e = rw (le-ltb (length s) end_size h, e)
 

@@ -8,6 +8,7 @@ ghost use Rattle.message_notes.specs.Dialect.{plain_form, head_size};
 ghost use Rattle.message_notes.specs.Notes.{head_note, field_note, end_note, is_head, mti_in, mti_place, count_in, field_note_at, end_note_at, note_at};
 
 // What stands where the note of a field or of the end should: its numbers, or that it is missing, cut or of another kind.
+// Three cases and no `Option` of two: each loop over notes tells them apart, and would take an `Option` of an enum apart in two steps.
 #[derive(Clone, Copy)]
 pub enum Note {
     Field {
@@ -19,6 +20,8 @@ pub enum Note {
     Malformed,
 }
 
+// Constants and no enum: the kinds are bytes of the notes, as 01 writes them, and a later rule may give one another number (`Form` of
+// specs/Dialect.antt).
 pub const HEAD_KIND: u8 = 1;
 
 pub const FIELD_KIND: u8 = 2;
@@ -35,50 +38,43 @@ pub const END_SIZE: usize = 5;
 pub const NOTES_ROOM: usize = HEAD_SIZE + FIELD_NOTE_SIZE * (64 * 3 - 2) + END_SIZE;
 
 // Whether the notes begin with a whole head; its count and MTI are the caller's to judge.
+#[tactic(auto, unfolding(crate::specs::Notes::is_head))]
 pub fn is_head(notes: &[u8]) -> bool
     ensures { result ≡ is_head notes.now }
 {
-    if notes.len() < HEAD_SIZE {
-        return false;
-    }
-    notes[0] == HEAD_KIND
+    HEAD_SIZE <= notes.len() && notes[0] == HEAD_KIND
 }
 
 // The MTI in the head, as a part of the notes; the empty part at their front where they are too short for a head.
+#[tactic(auto, unfolding(crate::specs::Notes::mti_place))]
 pub fn mti_in<'a>(notes: &'a [u8]) -> &'a [u8]
     ensures bytes { result.now ≡ cond (leb head_size (length notes.now)) (mti_in notes.now) [] }
     ensures place { (result.ref_ptr.0 ≡ notes.entry.ref_ptr.0) × (result.ref_ptr.1 ≡ notes.entry.ref_ptr.1 + mti_place notes.now) }
 {
-    if notes.len() < HEAD_SIZE {
-        return &notes[..0];
+    if HEAD_SIZE <= notes.len() {
+        &notes[1..5]
+    } else {
+        &notes[..0]
     }
-    &notes[1..5]
 }
 
 // The count of bitmaps in the head; 0 where the notes are too short for a head.
 pub fn count_in(notes: &[u8]) -> usize
     ensures { result ≡ count_in notes.now }
 {
-    if notes.len() < HEAD_SIZE {
-        return 0;
-    }
-    octets::wide(notes[5])
+    usize::from(notes.get(5).copied().unwrap_or(0))
 }
 
 // Writes the head note to the front of out; of a count, its last byte. Where it does not fit, out is left as it is.
 pub fn put_head(mti: &[u8], count: usize, out: &mut [u8])
     ensures { out.new ≡ placed (head_note mti.now count) out.old }
 {
-    if out.len() < 2 {
-        return;
-    }
-    if out.len() - 2 < mti.len() {
+    if out.len().saturating_sub(mti.len()) < 2 {
         return;
     }
     out[0] = HEAD_KIND;
     octets::put(mti, &mut out[1..]);
-    let at = 1 + mti.len();
-    octets::put_big_endian(count, 1, &mut out[at..]);
+    octets::put_big_endian(count, 1, &mut out[1 + mti.len()..]);
 }
 
 // Writes the note of a field to the front of out; of each number, as many of its last bytes as the note has for it. Every number
@@ -107,22 +103,18 @@ pub fn put_end(used: usize, out: &mut [u8])
 }
 
 // Reads the note of a field or of the end at the front of rest.
+#[tactic(auto, unfolding(crate::specs::Notes::note_at, crate::specs::Notes::field_note_at))]
 pub fn read_note(rest: &[u8]) -> Note
     ensures { result ≡ note_at plain_form rest.now }
 {
-    if rest.len() == 0 {
-        return Note::Malformed;
+    match rest {
+        [FIELD_KIND, ..] => read_field_note(rest),
+        [END_KIND, ..] => read_end_note(rest),
+        _ => Note::Malformed,
     }
-    let kind = rest[0];
-    if kind == FIELD_KIND {
-        return read_field_note(rest);
-    }
-    if kind == END_KIND {
-        return read_end_note(rest);
-    }
-    Note::Malformed
 }
 
+#[tactic(auto, unfolding(crate::specs::Notes::field_note_at), using(octets::proofs::Numbers::part_big_endian))]
 fn read_field_note(rest: &[u8]) -> Note
     ensures { result ≡ field_note_at plain_form rest.now }
 {
@@ -139,6 +131,7 @@ fn read_field_note(rest: &[u8]) -> Note
     }
 }
 
+#[tactic(auto, unfolding(crate::specs::Notes::end_note_at), using(octets::proofs::Numbers::part_big_endian))]
 fn read_end_note(rest: &[u8]) -> Note
     ensures { result ≡ end_note_at rest.now }
 {

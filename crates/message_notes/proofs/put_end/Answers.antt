@@ -1,7 +1,7 @@
 -- The kind is stored, and the number laid behind it.
-use mathlib.Core.Path.{refl, ◌∙◌}
+use mathlib.Core.Path.{refl}
 use mathlib.Core.List.{[], ◌∷◌}
-use lib.ListN.{set, length-set}
+use lib.ListN.{set}
 use Rattle.octets.specs.Numbers.{big_endian}
 use Rattle.octets.proofs.Lists.{placed_short, placed_done}
 use Rattle.octets.proofs.Parts.{lay_one, placed_part}
@@ -12,15 +12,6 @@ use Rattle.message_notes.proofs.put_end.Goals as goal
 
 pub returns-then-out-lt-END_SIZE : goal.returns-then-out-lt-END_SIZE
 returns-then-out-lt-END_SIZE c = placed_short _ _ _ (end_long _) c.if-out-lt-END_SIZE.true
-
-pub slice_bounds-put_big_endian-count : goal.slice_bounds-put_big_endian-count
-slice_bounds-put_big_endian-count c = simp length-set (omega arith)
-
-pub slice_bounds-put_big_endian-start : goal.slice_bounds-put_big_endian-start
-slice_bounds-put_big_endian-start c = simp length-set (omega arith)
-
-pub shape_of-out : goal.shape_of-out
-shape_of-out c = c.out-1.given.1 ∙ simp length-set
 
 pub returns : goal.returns
 unfolding end_note

@@ -2,7 +2,7 @@
 use mathlib.Core.Path.{refl, sym, ap, ◌∙◌}
 use mathlib.Core.List.{List, [], ◌∷◌, ◌++◌, append_assoc, append-nil}
 use Prim.Native.Nat.{ℕ}
-use lib.ListN.{set, length-set, length-append}
+use lib.ListN.{set, length-append}
 use Rattle.octets.specs.Lists.{lay}
 use Rattle.octets.specs.Numbers.{digits, big_endian}
 use Rattle.octets.proofs.Lists.{placed_short, placed_done}
@@ -16,27 +16,6 @@ use Rattle.message_notes.proofs.put_field.Goals as goal
 
 pub returns-then-out-lt-FIELD_NOTE_SIZE : goal.returns-then-out-lt-FIELD_NOTE_SIZE
 returns-then-out-lt-FIELD_NOTE_SIZE c = placed_short _ _ _ (field_long plain_form _) c.if-out-lt-FIELD_NOTE_SIZE.true
-
-pub slice_bounds-put_big_endian-count : goal.slice_bounds-put_big_endian-count
-slice_bounds-put_big_endian-count c = simp length-set (omega arith)
-
-pub slice_bounds-put_big_endian-start : goal.slice_bounds-put_big_endian-start
-slice_bounds-put_big_endian-start c = simp length-set (omega arith)
-
-pub slice_bounds-put_big_endian-count-2 : goal.slice_bounds-put_big_endian-count-2
-slice_bounds-put_big_endian-count-2 c = omega (arith, c.out-1.given, length-set c.args.out.now 0 2)
-
-pub slice_bounds-put_big_endian-start-2 : goal.slice_bounds-put_big_endian-start-2
-slice_bounds-put_big_endian-start-2 c = omega (arith, c.out-1.given, length-set c.args.out.now 0 2)
-
-pub slice_bounds-put_big_endian-count-3 : goal.slice_bounds-put_big_endian-count-3
-slice_bounds-put_big_endian-count-3 c = omega (arith, c.out-2-1.given, c.out-1.given, length-set c.args.out.now 0 2)
-
-pub slice_bounds-put_big_endian-start-3 : goal.slice_bounds-put_big_endian-start-3
-slice_bounds-put_big_endian-start-3 c = omega (arith, c.out-2-1.given, c.out-1.given, length-set c.args.out.now 0 2)
-
-pub shape_of-out : goal.shape_of-out
-shape_of-out c = c.out-3-1.given.1 ∙ c.out-2-1.given.1 ∙ c.out-1.given.1 ∙ simp length-set
 
 pub returns : goal.returns
 unfolding field_note digits

@@ -1,8 +1,8 @@
 -- The kind is stored, then the MTI and the count are laid behind it.
-use mathlib.Core.Path.{refl, ◌∙◌}
+use mathlib.Core.Path.{refl}
 use mathlib.Core.List.{[], ◌∷◌}
 use Prim.Native.Nat.{◌+◌}
-use lib.ListN.{length, set, length-set}
+use lib.ListN.{length, set}
 use Rattle.octets.specs.Numbers.{big_endian}
 use Rattle.octets.proofs.Lists.{placed_short, placed_done}
 use Rattle.octets.proofs.Parts.{lay_one, placed_part}
@@ -11,26 +11,8 @@ use Rattle.message_notes.proofs.Sizes.{bytes_long, head_long}
 use native.Mathlib.Omega.{arith}
 use Rattle.message_notes.proofs.put_head.Goals as goal
 
-pub returns-then-out-lt2 : goal.returns-then-out-lt2
-returns-then-out-lt2 c = placed_short _ _ _ (head_long _ _) (omega arith)
-
-pub returns-then-out-mti : goal.returns-then-out-mti
-returns-then-out-mti c = placed_short _ _ _ (head_long _ _) (omega arith)
-
-pub slice_bounds-put-count : goal.slice_bounds-put-count
-slice_bounds-put-count c = simp length-set (omega arith)
-
-pub slice_bounds-put-start : goal.slice_bounds-put-start
-slice_bounds-put-start c = simp length-set (omega arith)
-
-pub slice_bounds-put_big_endian-count : goal.slice_bounds-put_big_endian-count
-slice_bounds-put_big_endian-count c = omega (arith, c.out-1.given, length-set c.args.out.now 0 1)
-
-pub slice_bounds-put_big_endian-start : goal.slice_bounds-put_big_endian-start
-slice_bounds-put_big_endian-start c = omega (arith, c.out-1.given, length-set c.args.out.now 0 1)
-
-pub shape_of-out : goal.shape_of-out
-shape_of-out c = c.out-2-1.given.1 ∙ c.out-1.given.1 ∙ simp length-set
+pub returns-then-saturating_sub-lt2 : goal.returns-then-saturating_sub-lt2
+returns-then-saturating_sub-lt2 c = placed_short _ _ _ (head_long _ _) (omega arith)
 
 pub returns : goal.returns
 unfolding head_note
