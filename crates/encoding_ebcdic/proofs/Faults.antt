@@ -1,7 +1,7 @@
 -- The tests of a source, at each of their ends and with the facts as the code has them. Assumes nothing.
 use Prim.Native.Nat.{ℕ, ◌<◌}
 use mathlib.Core.Path.{◌≡◌}
-use mathlib.Core.Bool.{Bool, true, false}
+use mathlib.Core.Bool.{Bool, true}
 use mathlib.Core.List.{List}
 use native.Mathlib.Omega.{arith}
 use lib.ListN.{get_or}
@@ -11,7 +11,7 @@ use Rattle.octets.specs.Numbers.{is_ascii}
 use Rattle.octets.proofs.Cases.{by_bool}
 use Rattle.octets.proofs.Lists.{up_to_high, all_same}
 use Rattle.refusal.specs.Numbers.{no_ascii_meaning}
-use Rattle.refusal.specs.Refusals.{good, bad}
+use Rattle.refusal.specs.Refusals.{good}
 use Rattle.refusal.proofs.Tests.{bad_good}
 use Rattle.encoding_ebcdic.specs.Ebcdic.{table, ascii_of, means_ascii, encode_fault, decode_fault}
 use Rattle.encoding_ebcdic.proofs.Permutation.{read_means}

@@ -58,8 +58,9 @@ pub fn decode(src: &[u8], out: &mut [u8]) -> Result<usize, Refusal>
     Ok(src.len())
 }
 
+// 24 where src is no ASCII text.
 #[tactic(auto, unfolding(crate::specs::Ebcdic::encode_fault))]
-fn encode_fault(src: &[u8]) -> Result<(), Cause>
+pub fn encode_fault(src: &[u8]) -> Result<(), Cause>
     ensures { result ≡ encode_fault src.now }
 {
     if !all_between(src, 0, 0x7F) {

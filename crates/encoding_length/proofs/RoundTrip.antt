@@ -23,7 +23,7 @@ use Rattle.encoding_length.specs.Lengths.{is_width, size_of, spelt, text_of, enc
 use Rattle.encoding_length.specs.declared.Encoding.{Encoding}
 use Rattle.encoding_length.specs.declared.Encoding.TheVariants.{Ascii, Bcd, Ebcdic}
 use Rattle.encoding_length.proofs.Widths.{fault_width, fault_fits}
-use Rattle.encoding_length.proofs.Texts.{ascii_clean, ebcdic_clean, text_length}
+use Rattle.encoding_length.proofs.Texts.{ascii_clean, text_length}
 use Rattle.encoding_length.proofs.Measures.{measured_passes}
 
 -- digits in each encoding: their bytes, that they are not refused, and that they come back
@@ -37,13 +37,13 @@ spelt_clean : (e : Encoding) (t : List ℕ) → all is_digit t ≡ true → alph
 unfolding spelt alphabet_fault
 spelt_clean Ascii t d = ascii_clean t d
 spelt_clean Bcd t d = packed_decodes t d
-spelt_clean Ebcdic t d = encoded_decodes t (ebcdic_clean t d)
+spelt_clean Ebcdic t d = encoded_decodes t (ascii_clean t d)
 
 text_spelt : (e : Encoding) (t : List ℕ) → all is_digit t ≡ true → text_of e (length t) (spelt e t) ≡ t
 unfolding spelt text_of
 text_spelt Ascii t d = refl
 text_spelt Bcd t d = unpacked_packed t d
-text_spelt Ebcdic t d = decoded_encoded t (ebcdic_clean t d)
+text_spelt Ebcdic t d = decoded_encoded t (ascii_clean t d)
 
 module _ (e : Encoding) (w n : ℕ) (taken : encode_fault w n ≡ good) where
   digits : all is_digit (decimal w n) ≡ true

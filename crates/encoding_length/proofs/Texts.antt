@@ -19,8 +19,8 @@ use Rattle.refusal.specs.declared.Refusal.{Refusal}
 use Rattle.refusal.proofs.Tests.{bad_good}
 use Rattle.encoding_bcd.specs.Bcd.{encode_fault as bcd_encode_fault}
 use Rattle.encoding_bcd.proofs.Unpacking.{unpacked_length}
-use Rattle.encoding_ebcdic.specs.Ebcdic.{ascii_of, encode_fault as ebcdic_encode_fault}
-use Rattle.encoding_length.specs.Lengths.{size_of, spelt, text_of, ascii_fault, encode_fault}
+use Rattle.encoding_ebcdic.specs.Ebcdic.{ascii_of, encode_fault as ascii_fault}
+use Rattle.encoding_length.specs.Lengths.{size_of, spelt, text_of, encode_fault}
 use Rattle.encoding_length.specs.declared.Encoding.{Encoding}
 use Rattle.encoding_length.specs.declared.Encoding.TheVariants.{Ascii, Bcd, Ebcdic}
 use Rattle.encoding_length.proofs.Widths.{width_most, fault_width}
@@ -72,10 +72,6 @@ ascii_clean t d = rw (digits_ascii t d)
 pub bcd_clean : (t : List ℕ) → all is_digit t ≡ true → bcd_encode_fault t ≡ good
 unfolding bcd_encode_fault
 bcd_clean t d = rw d
-
-pub ebcdic_clean : (t : List ℕ) → all is_digit t ≡ true → ebcdic_encode_fault t ≡ good
-unfolding ebcdic_encode_fault
-ebcdic_clean t d = rw (digits_ascii t d)
 
 -- copied bytes that fit are laid over the output
 pub copied : (r d e : List ℕ) → e ≡ placed r d → good ≡ room (length r) (length d) → e ≡ lay r d

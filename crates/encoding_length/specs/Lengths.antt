@@ -6,7 +6,6 @@
 --   spelt e t             == the ASCII digits t in the encoding e
 --   text_of e w s         == the w characters that the bytes s spell in the encoding e, in ASCII
 --   encode_fault w n      == what the test of the length n for w digits finds
---   ascii_fault s         == what the test of s as ASCII text finds
 --   alphabet_fault e w s  == what the test of s as text of the encoding e finds
 --   decode_fault e w s    == what the tests of s as an indicator of w digits find, in their order
 --   measured e w s        == what decoding s answers: the number that its digits spell, or a refusal
@@ -14,13 +13,13 @@
 -- Assumes nothing: these are definitions.
 use Rattle.std.specs.Prelude.{ℕ, ◌^◌, Bool, cond, List, map, length, eqb, ltb, Result, Ok, Err}
 use Rattle.octets.specs.Lists.{both, either, all}
-use Rattle.octets.specs.Numbers.{is_digit, is_ascii, decimal_of}
-use Rattle.refusal.specs.Numbers.{length_needs_digits, byte_count_wrong, no_ascii_meaning, length_not_digits}
+use Rattle.octets.specs.Numbers.{is_digit, decimal_of}
+use Rattle.refusal.specs.Numbers.{length_needs_digits, byte_count_wrong, length_not_digits}
 use Rattle.refusal.specs.Refusals.{plain, Test, good, bad}
 use Rattle.refusal.specs.declared.Cause.{Cause}
 use Rattle.refusal.specs.declared.Refusal.{Refusal}
 use Rattle.encoding_bcd.specs.Bcd.{bytes_of, packed, unpacked, decode_fault as bcd_fault}
-use Rattle.encoding_ebcdic.specs.Ebcdic.{ascii_of, ebcdic_of, decode_fault as ebcdic_fault}
+use Rattle.encoding_ebcdic.specs.Ebcdic.{ascii_of, ebcdic_of, encode_fault as ascii_fault, decode_fault as ebcdic_fault}
 use Rattle.encoding_length.specs.declared.Encoding.{Encoding}
 use Rattle.encoding_length.specs.declared.Encoding.TheVariants.{Ascii, Bcd, Ebcdic}
 
@@ -50,10 +49,6 @@ text_of Ebcdic w s = map ascii_of s
 -- 01: "length needs more digits than given, or these aren't 2 or 3"
 unfoldable pub encode_fault : ℕ → ℕ → Test
 encode_fault w n = cond (both (is_width w) (ltb n (10 ^ w))) good (bad length_needs_digits)
-
--- 01: "byte has no ASCII meaning"
-unfoldable pub ascii_fault : List ℕ → Test
-ascii_fault s = cond (all is_ascii s) good (bad no_ascii_meaning)
 
 -- 01: "then BCD 22 or text 24"
 unfoldable pub alphabet_fault : Encoding → ℕ → List ℕ → Test

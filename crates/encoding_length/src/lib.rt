@@ -6,7 +6,8 @@ ghost use Rattle.octets.specs.Lists.{all};
 ghost use Rattle.octets.specs.Numbers.{is_digit, decimal, decimal_of};
 ghost use Rattle.refusal.specs.Refusals.{plain, good, told, converted, converted_into};
 ghost use Rattle.refusal.specs.Numbers.{length_not_digits};
-ghost use Rattle.encoding_length.specs.Lengths.{numbered, is_width, size_of, spelt, text_of, ascii_fault, encode_fault, alphabet_fault, measured};
+ghost use Rattle.encoding_ebcdic.specs.Ebcdic.{encode_fault as ascii_fault};
+ghost use Rattle.encoding_length.specs.Lengths.{numbered, is_width, size_of, spelt, text_of, encode_fault, alphabet_fault, measured};
 
 use encoding_bcd::bytes_of;
 use octets::{all_between, decimal_of, put, put_decimal};
@@ -114,20 +115,10 @@ fn copy(src: &[u8], out: &mut [u8]) -> Result<usize, Refusal>
     ensures answers { result ≡ converted (ascii_fault src.now) src.now out.old }
     ensures writes { out.new ≡ converted_into (ascii_fault src.now) src.now out.old }
 {
-    ascii_fault(src)?;
+    encoding_ebcdic::encode_fault(src)?;
     check_room(src.len(), out)?;
     put(src, out);
     Ok(src.len())
-}
-
-#[tactic(auto, unfolding(crate::specs::Lengths::ascii_fault))]
-fn ascii_fault(src: &[u8]) -> Result<(), Cause>
-    ensures { result ≡ ascii_fault src.now }
-{
-    if !all_between(src, 0, 0x7F) {
-        return Err(Cause::NoAsciiMeaning);
-    }
-    Ok(())
 }
 
 // How many bytes the digits take in the encoding.
