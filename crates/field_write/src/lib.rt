@@ -91,10 +91,10 @@ pub fn put_field(number: usize, content: &[u8], table: &[u16], out: &mut [u8])
 fn text_fault(class: Class, content: &[u8]) -> Result<(), Cause>
     ensures { result ≡ text_fault class content.now }
 {
-    if field_table::is_binary(class) || octets::all_between(content, 0, octets::LAST_ASCII) {
-        return Ok(());
+    if !field_table::is_binary(class) && !octets::all_between(content, 0, octets::LAST_ASCII) {
+        return Err(Cause::TextNotAscii);
     }
-    Err(Cause::TextNotAscii)
+    Ok(())
 }
 
 // By how many bytes a content of that length is too short for field number; a variable one never is.
