@@ -9,7 +9,7 @@ use std::fmt::{self, Display};
 
 // What a routine answers that does not refuse.
 #[derive(Clone, Copy)]
-pub enum Answer {
+pub(crate) enum Answer {
     Passed,
     Length(usize),
     Written(usize),
@@ -37,7 +37,7 @@ impl Display for Answer {
 
 // An answer, or why there is none.
 #[derive(Clone, Copy)]
-pub struct Told(Result<Answer, Refusal>);
+pub(crate) struct Told(Result<Answer, Refusal>);
 
 impl Display for Told {
     fn fmt<W: fmt::Write>(&self, f: &mut fmt::Formatter<W>) -> fmt::Result {
@@ -50,7 +50,7 @@ impl Display for Told {
 
 // What the cleaning writer answers, with the fields that it padded: none where it refuses.
 #[derive(Clone, Copy)]
-pub struct Cleaning(Result<Cleaned, Refusal>);
+pub(crate) struct Cleaning(Result<Cleaned, Refusal>);
 
 impl Display for Cleaning {
     fn fmt<W: fmt::Write>(&self, f: &mut fmt::Formatter<W>) -> fmt::Result {
@@ -71,36 +71,36 @@ impl Display for Cleaning {
     }
 }
 
-pub fn yes_or_no(is_so: bool) -> &'static str {
+pub(crate) fn yes_or_no(is_so: bool) -> &'static str {
     if is_so { "yes" } else { "no" }
 }
 
 // The library's own answers, by what is printed of them.
 
-pub fn written(answer: Result<usize, Refusal>) -> Told {
+pub(crate) fn written(answer: Result<usize, Refusal>) -> Told {
     Told(answer.map(|n| Answer::Written(n)))
 }
 
-pub fn cleaned(answer: Result<Cleaned, Refusal>) -> Cleaning {
+pub(crate) fn cleaned(answer: Result<Cleaned, Refusal>) -> Cleaning {
     Cleaning(answer)
 }
 
-pub fn checked(answer: Result<(), Refusal>) -> Told {
+pub(crate) fn checked(answer: Result<(), Refusal>) -> Told {
     Told(answer.map(|()| Answer::Passed))
 }
 
-pub fn measured(answer: Result<usize, Refusal>) -> Told {
+pub(crate) fn measured(answer: Result<usize, Refusal>) -> Told {
     Told(answer.map(|n| Answer::Length(n)))
 }
 
-pub fn found(answer: Result<Place, Refusal>) -> Told {
+pub(crate) fn found(answer: Result<Place, Refusal>) -> Told {
     Told(answer.map(|place| Answer::At(place)))
 }
 
-pub fn read(answer: Result<Accepted, Refusal>) -> Told {
+pub(crate) fn read(answer: Result<Accepted, Refusal>) -> Told {
     Told(answer.map(|accepted| Answer::Read(accepted)))
 }
 
-pub fn carried(answer: Result<Translated, Refusal>) -> Told {
+pub(crate) fn carried(answer: Result<Translated, Refusal>) -> Told {
     Told(answer.map(|translated| Answer::Carried(translated)))
 }

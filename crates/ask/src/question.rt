@@ -11,7 +11,7 @@ use std::fmt::Write;
 
 // A question, with what its words ask for in their order.
 #[derive(Drop)]
-pub enum Question {
+pub(crate) enum Question {
     BcdEncode(Room, Vec<u8>),
     BcdDecode(Room, usize, Vec<u8>),
     BcdBytes(usize),
@@ -36,7 +36,7 @@ pub enum Question {
 
 impl Question {
     // The question that the words ask, up to its last word.
-    pub fn from_words(words: &mut Words) -> Result<Self, Fault> {
+    pub(crate) fn from_words(words: &mut Words) -> Result<Self, Fault> {
         Ok(match words.name()? {
             "bcd-encode" => Self::BcdEncode(words.room()?, words.bytes()?),
             "bcd-decode" => Self::BcdDecode(words.room()?, words.number()?, words.bytes()?),
@@ -68,7 +68,7 @@ impl Question {
     }
 
     // Asks the routine, and tells what it answers.
-    pub fn tell(self, to: &mut String) -> Result<(), AllocError> {
+    pub(crate) fn tell(self, to: &mut String) -> Result<(), AllocError> {
         match self {
             Self::BcdEncode(room, bytes) => {
                 room.lend(to, |out| written(encoding_bcd::encode(&bytes, out)))

@@ -7,10 +7,10 @@ use std::fmt::{Display, Write};
 
 // Bytes to lend to a routine, filled so that one that is left as it was shows.
 #[derive(Drop)]
-pub struct Room(Vec<u8>);
+pub(crate) struct Room(Vec<u8>);
 
 impl Room {
-    pub fn new(alloc: Global, size: usize) -> Result<Self, Fault> {
+    pub(crate) fn new(alloc: Global, size: usize) -> Result<Self, Fault> {
         if size > MOST_BYTES {
             return Err(Fault::NoQuestion);
         }
@@ -18,7 +18,7 @@ impl Room {
     }
 
     // Lends the bytes to a routine, and tells what it answers and what it leaves in them.
-    pub fn lend<D: Display + Drop, F: FnOnce(&mut [u8]) -> D>(
+    pub(crate) fn lend<D: Display + Drop, F: FnOnce(&mut [u8]) -> D>(
         mut self,
         to: &mut String,
         routine: F,

@@ -7,13 +7,13 @@ use std::alloc::Global;
 use std::fmt;
 
 // The most bytes that a word may spell, and that may be lent for writing.
-pub const MOST_BYTES: usize = 2048;
+pub(crate) const MOST_BYTES: usize = 2048;
 
 // The most equal bytes in a row that are printed with no star.
 const UNSTARRED: usize = 16;
 
 // The bytes that a word spells.
-pub fn spell(alloc: Global, word: &str) -> Result<Vec<u8>, Fault> {
+pub(crate) fn spell(alloc: Global, word: &str) -> Result<Vec<u8>, Fault> {
     let mut bytes = Vec::new(alloc);
     if word == "-" {
         return Ok(bytes);
@@ -59,7 +59,7 @@ fn hex_value(digit: u8) -> Result<u8, Fault>
 
 // A byte that stands over sixteen times in a row is printed once, with a star and how often.
 #[derive(Clone, Copy)]
-pub struct Spelt<'a>(pub &'a [u8]);
+pub(crate) struct Spelt<'a>(pub &'a [u8]);
 
 // Equal bytes.
 #[derive(Clone, Copy)]

@@ -10,7 +10,7 @@ use std::str::Split;
 
 // Why a line has no answer.
 #[derive(Debug, Drop)]
-pub enum Fault {
+pub(crate) enum Fault {
     NoQuestion,
     OutOfMemory(AllocError),
 }
@@ -23,13 +23,13 @@ impl From<AllocError> for Fault {
 
 // The words of a line that are still to be read, and those that were, as they were understood.
 #[derive(Drop)]
-pub struct Words<'a> {
+pub(crate) struct Words<'a> {
     rest: Split<'a, char>,
     understood: String,
 }
 
 impl<'a> Words<'a> {
-    pub fn new(alloc: Global, line: &'a [u8]) -> Result<Self, Fault> {
+    pub(crate) fn new(alloc: Global, line: &'a [u8]) -> Result<Self, Fault> {
         let text = str::from_utf8(line).map_err(|_| Fault::NoQuestion)?;
         Ok(Words {
             rest: text.split(' '),
@@ -37,23 +37,23 @@ impl<'a> Words<'a> {
         })
     }
 
-    pub fn name(&mut self) -> Result<&'a str, Fault> {
+    pub(crate) fn name(&mut self) -> Result<&'a str, Fault> {
         let name = self.next()?;
         self.understood.push_str(name)?;
         Ok(name)
     }
 
-    pub fn number(&mut self) -> Result<usize, Fault> {
+    pub(crate) fn number(&mut self) -> Result<usize, Fault> {
         let word = self.plain()?;
         decimal(word)
     }
 
-    pub fn room(&mut self) -> Result<Room, Fault> {
+    pub(crate) fn room(&mut self) -> Result<Room, Fault> {
         let size = self.number()?;
         Room::new(self.alloc(), size)
     }
 
-    pub fn encoding(&mut self) -> Result<Encoding, Fault> {
+    pub(crate) fn encoding(&mut self) -> Result<Encoding, Fault> {
         match self.plain()? {
             "ascii" => Ok(Encoding::Ascii),
             "bcd" => Ok(Encoding::Bcd),
@@ -62,7 +62,7 @@ impl<'a> Words<'a> {
         }
     }
 
-    pub fn class(&mut self) -> Result<Class, Fault> {
+    pub(crate) fn class(&mut self) -> Result<Class, Fault> {
         match self.plain()? {
             "n" => Ok(Class::N),
             "a" => Ok(Class::A),
@@ -76,7 +76,7 @@ impl<'a> Words<'a> {
         }
     }
 
-    pub fn bytes(&mut self) -> Result<Vec<u8>, Fault> {
+    pub(crate) fn bytes(&mut self) -> Result<Vec<u8>, Fault> {
         let word = self.next()?;
         let bytes = spell(self.alloc(), word)?;
         write!(self.understood, " {}", Spelt(&bytes))?;
@@ -84,7 +84,7 @@ impl<'a> Words<'a> {
     }
 
     // The question as it was understood, where no word is left.
-    pub fn finish(mut self) -> Result<String, Fault> {
+    pub(crate) fn finish(mut self) -> Result<String, Fault> {
         match self.rest.next() {
             None => Ok(self.understood),
             Some(_) => Err(Fault::NoQuestion),
@@ -108,7 +108,7 @@ impl<'a> Words<'a> {
 }
 
 // The number that a word of decimal digits spells.
-pub fn decimal(word: &str) -> Result<usize, Fault> {
+pub(crate) fn decimal(word: &str) -> Result<usize, Fault> {
     // `parse` takes a sign.
     if word.starts_with('+') {
         return Err(Fault::NoQuestion);

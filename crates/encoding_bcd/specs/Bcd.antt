@@ -8,8 +8,8 @@
 --   unpacked n s      == n digits from the bytes s
 --   is_bcd b          == neither half of the byte b is over 9
 --   spare_zero n s    == where n is odd, the spare leading digit of s is 0
---   encode_fault s    == 01's number of the test that s fails as a source of digits, or 0
---   decode_fault n s  == 01's number of the first test that s fails as a source of n digits in BCD, or 0
+--   encode_fault s    == what the test of s as a source of digits finds
+--   decode_fault n s  == what the tests of s as a source of n digits in BCD find, the first that fails
 --
 -- Assumes nothing: these are definitions.
 use Rattle.std.specs.Prelude.{ℕ, ◌+◌, ◌-◌, ◌*◌, ◌/◌, ◌%◌, Bool, cond, List, [], ◌∷◌, length, get_or, drop, eqb, leb}

@@ -75,7 +75,7 @@ fn value_at(src: &[u8], j: usize) -> u8
     if j < odd { 0 } else { src[j - odd] - b'0' }
 }
 
-// What is wrong with src as the BCD of so many digits: 23, then 22; 0 where nothing is.
+// What is wrong with src as the BCD of so many digits: 23, then 22.
 pub fn decode_fault(src: &[u8], digits: usize) -> Result<(), Cause>
     ensures { result ≡ decode_fault digits src.now }
 {

@@ -8,7 +8,7 @@ ghost use Rattle.message_notes.specs.Dialect.{plain_form, head_size};
 ghost use Rattle.message_notes.specs.Notes.{head_note, field_note, end_note, is_head, mti_in, mti_place, count_in, field_note_at, end_note_at, note_at};
 
 // What stands where the note of a field or of the end should: its numbers, or that it is missing, cut or of another kind.
-// Three cases and no `Option` of two: each loop over notes tells them apart, and would take an `Option` of an enum apart in two steps.
+// Three cases and no `Option` of two: the judge of a note tells all three apart, and would take an `Option` of an enum apart in two steps.
 #[derive(Clone, Copy)]
 pub enum Note {
     Field {

@@ -55,9 +55,14 @@ struct Written<'a>(Option<&'a [u8]>);
 #[derive(Drop)]
 struct Hex<'a>(&'a [u8]);
 
-fn main(rt: HostRuntime) -> io::Result<()> {
+// What cannot be read or printed ends the cases, and with status 0.
+fn main(rt: HostRuntime) {
+    let _ = replay(&rt);
+}
+
+fn replay(rt: &HostRuntime) -> io::Result<()> {
     let mut from = BufReader::new(rt.alloc(), rt.reader())?;
-    let mut to = BufWriter::new(rt.alloc(), io::writer(&rt))?;
+    let mut to = BufWriter::new(rt.alloc(), io::writer(rt))?;
     for _ in 0..CASES {
         let Some(case) = read_case(rt.alloc(), &mut from)? else {
             break;
@@ -228,11 +233,7 @@ fn tell_length<'a>(answer: Result<usize, Refusal>) -> Answer<'a> {
 }
 
 fn encoding_of(number: u8) -> Encoding {
-    match number {
-        0 => Encoding::Ascii,
-        1 => Encoding::Bcd,
-        _ => Encoding::Ebcdic,
-    }
+    Encoding::try_from(u64::from(number)).unwrap_or(Encoding::Ebcdic)
 }
 
 impl fmt::Display for Answer<'_> {

@@ -2,7 +2,6 @@
 use Prim.Native.Nat.{ℕ}
 use mathlib.Core.Path.{◌≡◌, refl, ap, ◌∙◌}
 use mathlib.Core.Bool.{Bool, true, false, cond}
-use mathlib.Core.Bool.{Bool, true, false, cond}
 use native.Mathlib.Omega.{arith}
 use Rattle.std.specs.Prelude.{Result, Ok, Err}
 use Rattle.std.specs.Result.{IsErrAnd}
@@ -21,11 +20,6 @@ by_test (Err c) g b = b c refl
 pub passed : (b : Bool) (rest : Test) (c : Cause) → cond b rest (bad c) ≡ good → (b ≡ true) × (rest ≡ good)
 passed true rest c e = (refl, e)
 passed false rest c e = bad_good c e
-
--- a test whose first part is a flag
-pub passed_both : (b : Bool) (t : Test) (c : Cause) → cond b t (bad c) ≡ good → (b ≡ true) × (t ≡ good)
-passed_both true t c e = (refl, e)
-passed_both false t c e = bad_good c e
 
 -- what `?` hands on: the cause that a test found, or the refusal that it becomes, with no field, at position 0
 pub handed_on : {A E : Type 0} {r : Result A E} {x : E} → IsErrAnd r (λ y. y ≡ x) → r ≡ Err x

@@ -14,7 +14,7 @@ use Rattle.octets.proofs.Lists.{between_low, between_high}
 use Rattle.refusal.specs.Numbers.{number_not_allowed, class_broken, length_not_allowed}
 use Rattle.refusal.specs.Refusals.{good, bad}
 use Rattle.refusal.specs.declared.Cause.{Cause}
-use Rattle.refusal.proofs.Tests.{passed_both}
+use Rattle.refusal.proofs.Tests.{passed}
 use Rattle.bitmap.specs.Bitmaps.{is_field}
 use Rattle.field_table.specs.Table.{Table, table_of}
 use Rattle.field_table.specs.House.{house, house_rows}
@@ -37,9 +37,9 @@ pub passes : (t : Table) (f : ℕ) (s : List ℕ) → field_fault t f s ≡ good
 unfolding field_fault field_tests
 passes t f s e =
     let last = asks (is_allowed_length t f (length s)) length_not_allowed ∷ value_tests f s in
-    let number = passed_both (is_field f) (first_failing (asks (conforms (t.class f) s) class_broken ∷ last)) number_not_allowed e in
-    let class = passed_both (conforms (t.class f) s) (first_failing last) class_broken number.1 in
-    let fits = passed_both (is_allowed_length t f (length s)) (first_failing (value_tests f s)) length_not_allowed class.1 in
+    let number = passed (is_field f) (first_failing (asks (conforms (t.class f) s) class_broken ∷ last)) number_not_allowed e in
+    let class = passed (conforms (t.class f) s) (first_failing last) class_broken number.1 in
+    let fits = passed (is_allowed_length t f (length s)) (first_failing (value_tests f s)) length_not_allowed class.1 in
     record { number = number.0; class = class.0; fits = fits.0; value = fits.1 }
 
 pub taken_by_writer : (t : Table) → TakenByWriter t

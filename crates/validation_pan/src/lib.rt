@@ -51,7 +51,7 @@ fn count_digits(s: &[u8]) -> usize
 fn luhn_remainder(s: &[u8]) -> usize
     ensures { result ≡ luhn_sum (digits_in s.now) % 10 }
 {
-    // A loop: the iterator's `sum` of all that is added may overflow, and every second digit is another.
+    // A loop: a chain's `sum` may overflow, and each digit turns over whether the next one is doubled.
     let mut sum: usize = 0;
     let mut doubles = false;
     for b in s.iter().rev() {
