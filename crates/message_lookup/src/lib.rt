@@ -39,6 +39,7 @@ pub fn content<'a, 'b>(values: &'a [u8], notes: &'b [u8], number: usize) -> &'a 
 }
 
 // Finds the field among notes that have passed; end is the place of the end note.
+// By place, as notes are defined: an iterator of them is a type, an impl and two ghost members more, for three such loops.
 fn find(notes: &[u8], number: usize, end: usize) -> Result<Place, Refusal>
     requires { head_size ≤ length notes.now }
     ensures { result ≡ found_in number end (listed_in plain_form notes.now) }

@@ -105,6 +105,7 @@ impl Flaw {
 }
 
 // Walks the notes from the head to the end note, as lookup does: nothing is asked of a content but that it lies within the values.
+// Values and notes are lent apart, here and above: in a struct of the two each clause would say `n.now.values.now`.
 pub fn walk(values: &[u8], notes: &[u8]) -> Result<Gathered, Refusal>
     ensures end { gathered_end result ≡ walked (dialect house) (within values.now any) notes.now }
     ensures fields { gathered_fields result ≡ fields_in (dialect house) (within values.now any) notes.now }
@@ -127,7 +128,7 @@ pub fn head_fault(notes: &[u8]) -> Result<(), Cause>
     Ok(())
 }
 
-// Walks the notes behind a good head.
+// Walks the notes behind a good head. By place, since a note that is refused is answered with it.
 fn walk_fields(values: &[u8], notes: &[u8]) -> Result<Gathered, Refusal>
     requires { head_size ≤ length notes.now }
     ensures end { gathered_end result ≡ ending plain_form (within values.now any) (count_in notes.now) (length notes.now) 0 head_size (drop head_size notes.now) }

@@ -91,7 +91,7 @@ fn weigh(values: &[u8], notes: &[u8], ask: &ByRule) -> Result<Weighed, Refusal>
     weigh_fields(values, notes, ask)
 }
 
-// The same behind a good head.
+// The same behind a good head. By place, since a note that is refused is answered with it.
 fn weigh_fields(values: &[u8], notes: &[u8], ask: &ByRule) -> Result<Weighed, Refusal>
     requires { head_size ≤ length notes.now }
     ensures end { weighed_end result ≡ ending plain_form (fault_by (decoded ask.now.table.now) values.now ask.now.rule) (count_in notes.now) (length notes.now) 0 head_size (drop head_size notes.now) }
@@ -178,6 +178,7 @@ fn write_message(values: &[u8], notes: &[u8], fields: FieldSet, table: &[u16], o
 }
 
 // Writes the fields one behind the other, each into the rest of the output. Their notes and contents have passed and are not judged again.
+// By place, as `find` of message_lookup.
 fn write_body(values: &[u8], notes: &[u8], table: &[u16], out: &mut [u8])
     requires head { head_size ≤ length notes.now }
     requires clean { listed_in plain_form notes.now ≡ entries_by (decoded table.now) values.now Rule.Clean notes.now }
