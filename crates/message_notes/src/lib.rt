@@ -59,6 +59,7 @@ pub fn mti_in<'a>(notes: &'a [u8]) -> &'a [u8]
 }
 
 // The count of bitmaps in the head; 0 where the notes are too short for a head.
+// 0 and no `Option`: the promise says 0.
 pub fn count_in(notes: &[u8]) -> usize
     ensures { result ≡ count_in notes.now }
 {

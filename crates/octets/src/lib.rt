@@ -9,7 +9,7 @@ ghost use Rattle.octets.specs.Numerals.{digit_count, numeral};
 // The last byte of ASCII.
 pub const LAST_ASCII: u8 = 127;
 
-// A byte as a number that can be reckoned with.
+// A byte as a number that can be reckoned with. Kept beside `usize::from`: its promise and its must-fail edit stay.
 pub fn wide(b: u8) -> usize
     ensures value { result ≡ b }
     ensures small { result < 256 }
@@ -97,6 +97,7 @@ fn put_digits(n: usize, base: usize, first: u8, w: usize, out: &mut [u8])
 }
 
 // The number that up to sixteen bytes spell as ASCII digits; 0 where there are more. A byte x counts as x - 0x30, or 0 below that.
+// 0 and no `Option`: the promise says 0 (docs/DECISIONS.md, F10).
 pub fn decimal_of(s: &[u8]) -> usize
     ensures { result ≡ cond (leb (length s.now) 16) (decimal_of s.now) 0 }
 {
@@ -108,6 +109,7 @@ pub fn decimal_of(s: &[u8]) -> usize
 }
 
 // The number that big-endian bytes spell, up to eight of them; 0 where there are more.
+// 0 and no `Option`: the promise says 0 (docs/DECISIONS.md, F10).
 pub fn big_endian_of(s: &[u8]) -> usize
     ensures { result ≡ cond (leb (length s.now) 8) (big_endian_of s.now) 0 }
 {

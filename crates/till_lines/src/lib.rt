@@ -29,6 +29,7 @@ const NEWLINE: u8 = b'\n';
 
 // Writes the lines for an input to the front of text, and answers how many bytes they take. Where text has not the room
 // of any report, it is left as it is and the answer is 0.
+// 0 and no `Option`: the promise says 0.
 pub fn report(input: &[u8], text: &mut [u8]) -> usize
     ensures answers { result ≡ report_size (dialect house) input.now text.old }
     ensures writes { text.new ≡ report_text (dialect house) input.now text.old }
