@@ -91,7 +91,8 @@ fn weigh(values: &[u8], notes: &[u8], ask: &ByRule) -> Result<Weighed, Refusal>
     weigh_fields(values, notes, ask)
 }
 
-// The same behind a good head. By place, since a note that is refused is answered with it.
+// The same behind a good head. By place, since a note that is refused is answered with it; a loop beside message_walk's, since a walk that
+// takes a closure has to say in each contract what its turns fold to.
 fn weigh_fields(values: &[u8], notes: &[u8], ask: &ByRule) -> Result<Weighed, Refusal>
     requires { head_size ≤ length notes.now }
     ensures end { weighed_end result ≡ ending plain_form (fault_by (decoded ask.now.table.now) values.now ask.now.rule) (count_in notes.now) (length notes.now) 0 head_size (drop head_size notes.now) }
