@@ -2,9 +2,6 @@
 #![tactic(auto)]
 
 ghost use Rattle.std.specs.Prelude.{◌≡◌, ◌≤◌, length};
-ghost use Rattle.octets.specs.Lists.{either, all};
-ghost use Rattle.octets.specs.Numbers.{is_ascii};
-ghost use Rattle.field_table.specs.Table.{is_binary};
 ghost use Rattle.field_table.specs.Codes.{decoded};
 ghost use Rattle.field_read.specs.Items.{length_of, read_item, read_field, place_field};
 
@@ -63,7 +60,7 @@ fn read_item(rest: &[u8], width: usize, most: usize, class: Class) -> Result<Con
         return Err(Cause::PastTheEnd);
     }
     let end = width + length;
-    if !is_allowed(class, &rest[width..end]) {
+    if !class.allows(&rest[width..end]) {
         return Err(Cause::TextNotAscii);
     }
     Ok(Content {
@@ -79,14 +76,8 @@ fn content_length(digits: &[u8], width: usize, most: usize) -> usize
     ensures { result ≡ length_of width most digits.now }
 {
     if width == 0 {
-        return most;
+        most
+    } else {
+        octets::decimal_of(digits)
     }
-    octets::decimal_of(digits)
-}
-
-// 01: "text is any bytes up to 0x7F, binary is any bytes".
-fn is_allowed(class: Class, content: &[u8]) -> bool
-    ensures { result ≡ either (is_binary class) (all is_ascii content.now) }
-{
-    field_table::is_binary(class) || octets::all_between(content, 0, octets::LAST_ASCII)
 }

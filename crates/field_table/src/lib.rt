@@ -2,6 +2,8 @@
 #![tactic(auto, unfolding(crate::specs::Codes::code_in, crate::specs::Codes::decoded))]
 
 ghost use Rattle.std.specs.Prelude.{◌≡◌, ◌≤◌};
+ghost use Rattle.octets.specs.Lists.{either, all};
+ghost use Rattle.octets.specs.Numbers.{is_ascii};
 ghost use Rattle.field_table.specs.Table.{is_binary};
 ghost use Rattle.field_table.specs.House.{house};
 ghost use Rattle.field_table.specs.Codes.{class_by_code, code_in, decoded, house_codes};
@@ -27,6 +29,8 @@ pub fn house_table() -> [u16; 193]
     HOUSE
 }
 
+// By the lent slice and by no struct around it: contracts say `decoded table.now` all the same, since the view of a struct cannot be a
+// record of functions, and a struct with an array of 193 takes fewer inputs than a slice.
 // How many length digits field number has: none where it is fixed, two or three where it is variable; 0 where the table has no such field.
 pub fn width_in(table: &[u16], number: usize) -> usize
     ensures value { result ≡ (decoded table.now).width number }
@@ -61,6 +65,15 @@ pub fn is_binary(class: Class) -> bool
     ensures { result ≡ is_binary class }
 {
     class == Class::B
+}
+
+impl Class {
+    // Whether contents of the class may hold these bytes. 01: "text is any bytes up to 0x7F, binary is any bytes".
+    pub fn allows(self, content: &[u8]) -> bool
+        ensures { result ≡ either (is_binary self) (all is_ascii content.now) }
+    {
+        is_binary(self) || octets::all_between(content, 0, octets::LAST_ASCII)
+    }
 }
 
 // The class that a number stands for.

@@ -84,14 +84,14 @@ pub fn put_field(number: usize, content: &[u8], table: &[u16], out: &mut [u8])
     }
 }
 
-// 8 where the content is text and has a byte that is not. 01: "text is any bytes up to 0x7F, binary is any bytes".
+// 8 where the class does not allow the content.
 // Kept apart from its callers: within the writers' walk the loop over the bytes comes out two instructions longer.
 #[inline(never)]
 #[tactic(auto, unfolding(crate::specs::Fields::text_fault))]
 fn text_fault(class: Class, content: &[u8]) -> Result<(), Cause>
     ensures { result ≡ text_fault class content.now }
 {
-    if !field_table::is_binary(class) && !octets::all_between(content, 0, octets::LAST_ASCII) {
+    if !class.allows(content) {
         return Err(Cause::TextNotAscii);
     }
     Ok(())

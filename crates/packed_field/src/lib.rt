@@ -179,9 +179,10 @@ fn content_size(script: Script, class: Class, count: usize) -> usize
     ensures { result ≡ content_size script class count }
 {
     if is_numeric(class) {
-        return script.size_of(count);
+        script.size_of(count)
+    } else {
+        count
     }
-    count
 }
 
 // Whether s is a content of that class, count digits long where they are digits.
@@ -190,25 +191,17 @@ fn is_content(s: &[u8], script: Script, class: Class, count: usize) -> bool
     ensures { result ≡ is_content script class count s.now }
 {
     if is_numeric(class) {
-        return is_spelt(s, script, count);
+        is_spelt(s, script, count)
+    } else {
+        class.allows(s)
     }
-    field_table::is_binary(class) || octets::all_between(s, 0, octets::LAST_ASCII)
 }
 
 // Whether contents of that class are digits: class n and no other.
 pub fn is_numeric(class: Class) -> bool
     ensures { result ≡ is_numeric class }
 {
-    match class {
-        Class::N => true,
-        Class::A => false,
-        Class::An => false,
-        Class::Ans => false,
-        Class::Ns => false,
-        Class::Z => false,
-        Class::Xn => false,
-        Class::B => false,
-    }
+    matches!(class, Class::N)
 }
 
 fn length_fault(script: Script) -> Cause
@@ -225,9 +218,10 @@ fn content_fault(script: Script, class: Class) -> Cause
     ensures { result ≡ content_fault script class }
 {
     if is_numeric(class) {
-        return digits_fault(script);
+        digits_fault(script)
+    } else {
+        Cause::TextNotAscii
     }
-    Cause::TextNotAscii
 }
 
 fn digits_fault(script: Script) -> Cause
