@@ -6,7 +6,7 @@ ghost use Rattle.octets.specs.Lists.{lead};
 ghost use Rattle.field_table.specs.Codes.{decoded};
 ghost use Rattle.field_read.specs.Items.{length_of};
 ghost use Rattle.packed_field.specs.Scripts.{size_of, is_spelt, is_part, digits_of, carried_into, other};
-ghost use Rattle.packed_field.specs.Items.{is_numeric, content_size, is_content, length_fault, digits_fault, content_fault, place_by, place_item, judge_item};
+ghost use Rattle.packed_field.specs.Items.{is_numeric, content_size, is_content, length_fault, digits_fault, content_fault, place_item, judge_item};
 
 use field_table::Class;
 use refusal::Cause;
@@ -94,6 +94,7 @@ fn is_spelt(src: &[u8], script: Script, digits: usize) -> bool
 
 // Reads field number at the front of rest by the table lent, its content judged: 5, 6 or 22, 7, 5, then 21, 22 or 8. The caller adds field
 // and position.
+#[tactic(auto, unfolding(crate::specs::Items::judge_item))]
 pub fn judge_item(rest: &[u8], number: usize, script: Script, table: &[u16]) -> Result<Item, Cause>
     ensures { result ≡ judge_item script (decoded table.now) number rest.now }
 {
@@ -107,27 +108,13 @@ pub fn judge_item(rest: &[u8], number: usize, script: Script, table: &[u16]) -> 
 }
 
 // The same, but no byte of the content is asked about.
+#[tactic(auto, unfolding(crate::specs::Items::place_item, crate::specs::Items::place_by, crate::specs::Items::place_sized))]
 pub fn place_item(rest: &[u8], number: usize, script: Script, table: &[u16]) -> Result<Item, Cause>
     ensures { result ≡ place_item script (decoded table.now) number rest.now }
 {
     let width = field_table::width_in(table, number);
     let most = field_table::most_in(table, number);
     let class = field_table::class_in(table, number);
-    place_by(rest, script, width, most, class)
-}
-
-// Finds a field with that many length digits, that length or greatest length, and that class.
-fn place_by(
-    rest: &[u8],
-    script: Script,
-    width: usize,
-    most: usize,
-    class: Class,
-) -> Result<Item, Cause>
-    requires width_bound { width ≤ 3 }
-    requires most_bound { most ≤ 1023 }
-    ensures { result ≡ place_by script width most class rest.now }
-{
     let start = script.size_of(width);
     if rest.len() < start {
         return Err(Cause::PastTheEnd);

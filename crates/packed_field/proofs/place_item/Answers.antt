@@ -1,9 +1,8 @@
--- What the table has for the field, handed on.
-use Rattle.packed_field.proofs.Ends.{most_small, placed_by}
+-- What the field takes in the other script is small, as the table's numbers are.
+use Rattle.packed_field.proofs.Ends.{most_small, across_small}
+use native.Mathlib.Omega.{arith}
 use Rattle.packed_field.proofs.place_item.Goals as goal
 
-pub place_by-requires : goal.place_by-requires
-place_by-requires c = record { width_bound = c.width_in-width.ensures.small; most_bound = most_small _ _ _ c.most_in-most.ensures }
-
-pub returns : goal.returns
-returns c = placed_by _ _ _ _ _ _ _ _ c.width_in-width.ensures.value c.most_in-most.ensures c.class_in-class.ensures c.place_by.ensures
+pub overflow_add-carried : goal.overflow_add-carried
+overflow_add-carried c =
+    omega (arith, across_small _ _ _ _ _ _ _ c.width_in-width.ensures.small (most_small _ _ _ c.most_in-most.ensures) c.if-most-count.false c.size_of.ensures c.content_size.ensures)
