@@ -57,6 +57,7 @@ pub fn is_short(number: usize, length: usize, table: &[u16]) -> bool
 }
 
 // How many bytes field number takes with a content of that length; 0 for a length that no note can hold.
+// 0 and no `Option`: the promise says 0 (docs/DECISIONS.md, F10).
 #[tactic(auto, unfolding(crate::specs::Fields::written_size))]
 pub fn written_size(number: usize, length: usize, table: &[u16]) -> usize
     ensures { result ≡ cond (leb length longest) (written_size (decoded table.now) number length) 0 }

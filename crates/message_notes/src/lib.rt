@@ -9,6 +9,7 @@ ghost use Rattle.message_notes.specs.Notes.{head_note, field_note, end_note, is_
 
 // What stands where the note of a field or of the end should: its numbers, or that it is missing, cut or of another kind.
 // Three cases and no `Option` of two: the judge of a note tells all three apart, and would take an `Option` of an enum apart in two steps.
+// The three numbers stand in the case itself, as in message_walk's `Judged`: a struct of them would only be taken apart again.
 #[derive(Clone, Copy)]
 pub enum Note {
     Field {

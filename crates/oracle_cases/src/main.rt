@@ -29,7 +29,7 @@ struct Case {
     input: Vec<u8>,
 }
 
-// What a line says of a case.
+// What a line says of a case. Refusals are cases of it: by its kind a line says that alone, or with a field or a number.
 #[derive(Drop)]
 enum Answer<'a> {
     Good,
