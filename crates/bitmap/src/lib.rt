@@ -150,7 +150,7 @@ fn list_bits(b: u8, first: usize, numbers: &mut [u8]) -> usize
     ensures count { result ≡ length (bit_numbers b first) }
     ensures writes { numbers.new ≡ placed (bit_numbers b first) numbers.old }
 {
-    // While bits are left: each turn goes to the next bit that is set, and counts no index.
+    // While bits are left: each turn goes to the next one set; a `for` over all eight would test each, and is no plainer.
     let mut rest = b;
     let mut n = 0;
     while rest != 0 {

@@ -27,6 +27,7 @@ pub fn look_up(values: &[u8], notes: &[u8], number: usize) -> Result<Place, Refu
 }
 
 // The field's content, as a part of the values; the empty part at their front where lookup refuses.
+// An empty part and no `Option`: the promise says so.
 pub fn content<'a, 'b>(values: &'a [u8], notes: &'b [u8], number: usize) -> &'a [u8]
     ensures bytes { result.now ≡ take (size_of (looked_up (dialect house) values.now notes.now number)) (drop (start_of (looked_up (dialect house) values.now notes.now number)) values.now) }
     ensures place { (result.ref_ptr.0 ≡ values.entry.ref_ptr.0) × (result.ref_ptr.1 ≡ values.entry.ref_ptr.1 + start_of (looked_up (dialect house) values.now notes.now number)) }

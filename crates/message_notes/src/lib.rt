@@ -9,7 +9,7 @@ ghost use Rattle.message_notes.specs.Notes.{head_note, field_note, end_note, is_
 
 // What stands where the note of a field or of the end should: its numbers, or that it is missing, cut or of another kind.
 // Three cases and no `Option` of two: the judge of a note tells all three apart, and would take an `Option` of an enum apart in two steps.
-// The three numbers stand in the case itself, as in message_walk's `Judged`: a struct of them would only be taken apart again.
+// The three numbers stand in the case itself, as in message_walk's `Judged`: a struct would be built for each note and taken apart at once.
 #[derive(Clone, Copy)]
 pub enum Note {
     Field {
@@ -21,8 +21,7 @@ pub enum Note {
     Malformed,
 }
 
-// Constants and no enum: the kinds are bytes of the notes, as 01 writes them, and a later rule may give one another number (`Form` of
-// specs/Dialect.antt).
+// Constants and no enum: a pattern compares the note's own byte, where an enum would first be made of it, and some bytes are no kind.
 pub const HEAD_KIND: u8 = 1;
 
 pub const FIELD_KIND: u8 = 2;
@@ -47,6 +46,7 @@ pub fn is_head(notes: &[u8]) -> bool
 }
 
 // The MTI in the head, as a part of the notes; the empty part at their front where they are too short for a head.
+// An empty part and no `Option`: the promise says so.
 #[tactic(auto, unfolding(crate::specs::Notes::mti_place))]
 pub fn mti_in<'a>(notes: &'a [u8]) -> &'a [u8]
     ensures bytes { result.now ≡ cond (leb head_size (length notes.now)) (mti_in notes.now) [] }

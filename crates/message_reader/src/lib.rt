@@ -34,7 +34,7 @@ pub fn read(message: &[u8], notes: &mut [u8]) -> Result<Accepted, Refusal>
     read_by(message, bitmaps, &table, notes)
 }
 
-// Reads the fields of a message with a good head by the table lent, and writes its notes: lists the fields that its bitmaps name.
+// Reads the fields that the bitmaps of a message with a good head name, by the table lent, and writes its notes.
 fn read_by(
     message: &[u8],
     bitmaps: usize,
@@ -48,24 +48,8 @@ fn read_by(
 {
     let start = 4 + 8 * bitmaps;
     let list = bitmap::list_fields(&message[4..start]);
-    read_listed(message, bitmaps, list.as_slice(), table, notes)
-}
-
-// The same, with the numbers of the fields in hand.
-fn read_listed(
-    message: &[u8],
-    bitmaps: usize,
-    fields: &[u8],
-    table: &[u16],
-    notes: &mut [u8],
-) -> Result<Accepted, Refusal>
-    requires headed { head_read (dialect (decoded table.now)).most message.now ≡ Ok bitmaps }
-    requires listed { fields.now ≡ fields_of (maps_of 4 message.now bitmaps) bitmaps }
-    requires room { notes_room (dialect (decoded table.now)) ≤ length notes.old }
-    ensures answers { result ≡ read_answer (dialect (decoded table.now)) message.now notes.old }
-    ensures writes { notes.new ≡ notes_after (dialect (decoded table.now)) message.now notes.old }
-{
-    let used = read_fields(message, 4 + 8 * bitmaps, fields, table)?;
+    let fields = list.as_slice();
+    let used = read_fields(message, start, fields, table)?;
     write_notes(message, bitmaps, used, fields, table, notes);
     Ok(Accepted { used, bitmaps })
 }

@@ -38,6 +38,7 @@ impl Ask for Nothing {
 }
 
 // What the exact writer asks, or the cleaning writer: 12 or 8.
+// An enum and no two types: the definitions of what a writer answers take it (`asked`).
 #[derive(Clone, Copy)]
 pub enum Rule {
     Exact,

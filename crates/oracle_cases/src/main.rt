@@ -128,6 +128,7 @@ fn print_answer<W: Write>(case: &Case, to: &mut W) -> io::Result<()> {
 }
 
 // The answer to a case: none where the input is too short for its kind.
+// By the letter and no enum of kinds: a letter is met here alone, in the arm that answers it.
 fn answer_case<'a>(case: &'a Case, notes: &'a mut [u8], out: &'a mut [u8]) -> Option<Answer<'a>> {
     let argument = usize::from(case.argument);
     let input = case.input.as_slice();

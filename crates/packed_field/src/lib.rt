@@ -108,6 +108,7 @@ pub fn judge_item(rest: &[u8], number: usize, script: Script, table: &[u16]) -> 
 }
 
 // The same, but no byte of the content is asked about.
+// The tests are field_read's `read_item`, in the same order; that reads the plain script alone, so that the reader stands without this one.
 #[tactic(auto, unfolding(crate::specs::Items::place_item, crate::specs::Items::place_by, crate::specs::Items::place_sized))]
 pub fn place_item(rest: &[u8], number: usize, script: Script, table: &[u16]) -> Result<Item, Cause>
     ensures { result ≡ place_item script (decoded table.now) number rest.now }
@@ -191,6 +192,7 @@ pub fn is_numeric(class: Class) -> bool
     matches!(class, Class::N)
 }
 
+// This, `digits_fault` and packed_link's `mti_fault` are each named by their definition: one over the plain cause would be no plainer.
 fn length_fault(script: Script) -> Cause
     ensures { result ≡ length_fault script }
 {

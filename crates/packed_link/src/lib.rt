@@ -77,6 +77,7 @@ impl Link<'_> {
     }
 
     // Reads the MTI and finds how many bitmaps there are.
+    // As message_reader's, which knows no script and stands below the link.
     fn read_head(&self, input: &[u8]) -> Result<usize, Refusal>
         ensures { result ≡ link_head self.now.script 3 input.now }
     {

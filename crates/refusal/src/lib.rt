@@ -128,6 +128,7 @@ pub fn check_room(n: usize, out: &[u8]) -> Result<(), Cause>
 }
 
 // What a check of that field answers, whose test is given: its refusals have position 0.
+// By `match`: what a closure answers in `map_err` is known to a proof only as some value, and the laws do not meet it.
 #[tactic(auto, unfolding(crate::specs::Refusals::checked))]
 pub fn answer_check(test: Result<(), Cause>, field: usize) -> Result<(), Refusal>
     ensures { result ≡ checked test field }

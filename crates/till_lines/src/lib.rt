@@ -62,8 +62,8 @@ fn put_refused(refusal: Refusal, out: &mut [u8]) -> usize
     put_tripled(b"refused", number, b"field", field, b"at", position, out)
 }
 
-// Writes the lines of an input that was accepted, each behind the last: the fields' by walking the notes, by place, as `find` of
-// message_lookup.
+// Writes the lines of an input that was accepted, each behind the last: the fields' by walking the notes.
+// By place, as `find` of message_lookup.
 fn put_reading(input: &[u8], used: usize, bitmaps: usize, notes: &[u8], text: &mut [u8]) -> usize
     requires short { length input.now ≤ input_most }
     requires read { read_message house (dialect house).most input.now ≡ Ok (acceptance used bitmaps) }
