@@ -35,6 +35,7 @@ pub fn read(message: &[u8], notes: &mut [u8]) -> Result<Accepted, Refusal>
 }
 
 // Reads the fields that the bitmaps of a message with a good head name, by the table lent, and writes its notes.
+// Message, count and table go on apart: a struct of them would stand in each clause, in front of what it says, for two routines.
 fn read_by(
     message: &[u8],
     bitmaps: usize,

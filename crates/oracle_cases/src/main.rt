@@ -205,32 +205,20 @@ fn tell_read<'a>(message: &'a [u8], notes: &'a mut [u8]) -> Answer<'a> {
 }
 
 fn tell_written(answer: Result<usize, Refusal>, out: &[u8]) -> Written<'_> {
-    match answer {
-        Ok(n) => Written(out.get(..n)),
-        Err(_) => Written(None),
-    }
+    Written(answer.ok().and_then(|n| out.get(..n)))
 }
 
 fn tell_check<'a>(answer: Result<(), Refusal>) -> Answer<'a> {
-    match answer {
-        Ok(()) => Answer::Good,
-        Err(_) => Answer::Refused,
-    }
+    answer.map_or(Answer::Refused, |()| Answer::Good)
 }
 
 // Which field is missing, if one is.
 fn tell_required<'a>(answer: Result<(), Refusal>) -> Answer<'a> {
-    match answer {
-        Ok(()) => Answer::Good,
-        Err(why) => Answer::RefusedFor(why.field),
-    }
+    answer.map_or_else(|why| Answer::RefusedFor(why.field), |()| Answer::Good)
 }
 
 fn tell_length<'a>(answer: Result<usize, Refusal>) -> Answer<'a> {
-    match answer {
-        Ok(n) => Answer::Length(n),
-        Err(_) => Answer::Refused,
-    }
+    answer.map_or(Answer::Refused, |n| Answer::Length(n))
 }
 
 fn encoding_of(number: u8) -> Encoding {

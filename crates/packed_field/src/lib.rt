@@ -161,6 +161,7 @@ fn content_count(digits: &[u8], script: Script, width: usize, most: usize) -> us
     }
 }
 
+// Script, class and count go on apart, here and below, as the definitions take them; a struct of them would be built for three calls.
 // How many bytes a content of count digits or bytes takes.
 #[tactic(auto, unfolding(crate::specs::Items::content_size))]
 fn content_size(script: Script, class: Class, count: usize) -> usize

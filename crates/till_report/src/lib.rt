@@ -32,7 +32,8 @@ fn print_lines<W: Write>(input: &[u8], to: &mut W) -> io::Result<()>
     to.write_all(&text[..length])
 }
 
-// Reads until buf is full, the input ends or a read fails, and answers how many bytes it put at the front of buf, and that failure.
+// Reads until buf is full, the input ends or a read fails, and answers how many bytes it put at the front of buf, and that failure: both,
+// since the bytes before a failure count (docs/DECISIONS.md, T5).
 // By index: `read_exact` does not say how many bytes it put, and `read_to_end` fills a Vec, where memory here is fixed.
 fn read_full<R: Read>(from: &mut R, buf: &mut [u8]) -> (usize, io::Result<()>)
     ensures within { result.0 ≤ length buf.new }
