@@ -5,6 +5,7 @@
 --   is_numeric c        == contents of class c are digits: class n and no other
 --   content_size S c n  == how many bytes a content of n digits (class n) or n bytes takes
 --   is_content S c n s  == the bytes s are such a content: digits, text or any bytes, as the class has it
+--   fault_in S c        == the refusal of digits that are none, c where they are plain
 --   length_fault S      == the refusal of length digits that are none
 --   digits_fault S      == the refusal of a content of class n that is no digits
 --   content_fault S c   == the refusal of a content that is none of its class
@@ -49,13 +50,15 @@ content_size S c n = cond (is_numeric c) (size_of S n) n
 unfoldable pub is_content : Script → Class → ℕ → List ℕ → Bool
 is_content S c n s = cond (is_numeric c) (is_spelt S n s) (either (is_binary c) (all is_ascii s))
 
+abbrev pub fault_in : Script → Cause → Cause
+fault_in Plain c = c
+fault_in Packed c = not_bcd
+
 abbrev pub length_fault : Script → Cause
-length_fault Plain = length_not_digits
-length_fault Packed = not_bcd
+length_fault S = fault_in S length_not_digits
 
 abbrev pub digits_fault : Script → Cause
-digits_fault Plain = not_digits
-digits_fault Packed = not_bcd
+digits_fault S = fault_in S not_digits
 
 unfoldable pub content_fault : Script → Class → Cause
 content_fault S c = cond (is_numeric c) (digits_fault S) text_not_ascii

@@ -6,7 +6,7 @@ ghost use Rattle.octets.specs.Lists.{lead};
 ghost use Rattle.field_table.specs.Codes.{decoded};
 ghost use Rattle.field_read.specs.Items.{length_of};
 ghost use Rattle.packed_field.specs.Scripts.{size_of, is_spelt, is_part, digits_of, carried_into, other};
-ghost use Rattle.packed_field.specs.Items.{is_numeric, content_size, is_content, length_fault, digits_fault, content_fault, place_item, judge_item};
+ghost use Rattle.packed_field.specs.Items.{is_numeric, content_size, is_content, fault_in, content_fault, place_item, judge_item};
 
 use field_table::Class;
 use refusal::Cause;
@@ -48,6 +48,16 @@ impl Script {
         match self {
             Script::Plain => digits,
             Script::Packed => encoding_bcd::bytes_of(digits),
+        }
+    }
+
+    // Why digits are refused that are none: 22 where they are packed, else for that cause.
+    pub fn fault(self, plain: Cause) -> Cause
+        ensures { result ≡ fault_in self plain }
+    {
+        match self {
+            Script::Plain => plain,
+            Script::Packed => Cause::NotBcd,
         }
     }
 }
@@ -122,7 +132,7 @@ pub fn place_item(rest: &[u8], number: usize, script: Script, table: &[u16]) -> 
     }
     let digits = &rest[..start];
     if !is_spelt(digits, script, width) {
-        return Err(length_fault(script));
+        return Err(script.fault(Cause::LengthNotDigits));
     }
     let count = content_count(digits, script, width, most);
     if most < count {
@@ -193,32 +203,13 @@ pub fn is_numeric(class: Class) -> bool
     matches!(class, Class::N)
 }
 
-// This, `digits_fault` and packed_link's `mti_fault` are each named by their definition: one over the plain cause would be no plainer.
-fn length_fault(script: Script) -> Cause
-    ensures { result ≡ length_fault script }
-{
-    match script {
-        Script::Plain => Cause::LengthNotDigits,
-        Script::Packed => Cause::NotBcd,
-    }
-}
-
 #[tactic(auto, unfolding(crate::specs::Items::content_fault))]
 fn content_fault(script: Script, class: Class) -> Cause
     ensures { result ≡ content_fault script class }
 {
     if is_numeric(class) {
-        digits_fault(script)
+        script.fault(Cause::NotDigits)
     } else {
         Cause::TextNotAscii
-    }
-}
-
-fn digits_fault(script: Script) -> Cause
-    ensures { result ≡ digits_fault script }
-{
-    match script {
-        Script::Plain => Cause::NotDigits,
-        Script::Packed => Cause::NotBcd,
     }
 }

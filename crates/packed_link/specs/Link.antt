@@ -21,7 +21,7 @@
 -- Assumes nothing: these are definitions.
 use Rattle.std.specs.Prelude.{ℕ, ◌+◌, ◌*◌, cond, List, [], ◌∷◌, ◌++◌, length, take, drop, ltb, leb, Result, Ok, Err}
 use Rattle.octets.specs.Lists.{lead, lay}
-use Rattle.refusal.specs.Numbers.{message_too_short, mti_not_digits, not_bcd, output_too_short}
+use Rattle.refusal.specs.Numbers.{message_too_short, mti_not_digits, output_too_short}
 use Rattle.refusal.specs.Refusals.{refusal, plain, Told, tell, tell_refused}
 use Rattle.refusal.specs.declared.Cause.{Cause}
 use Rattle.refusal.specs.declared.Refusal.{Refusal}
@@ -30,9 +30,8 @@ use Rattle.field_table.specs.declared.Class.{Class}
 use Rattle.bitmap.specs.Bitmaps.{fields_of}
 use Rattle.bitmap_read.specs.Found.{maps_of, bitmaps_read}
 use Rattle.packed_field.specs.declared.Script.{Script}
-use Rattle.packed_field.specs.declared.Script.TheVariants.{Plain, Packed}
 use Rattle.packed_field.specs.Scripts.{other, size_of, is_part, carried}
-use Rattle.packed_field.specs.Items.{is_numeric, judge_item}
+use Rattle.packed_field.specs.Items.{fault_in, is_numeric, judge_item}
 use Rattle.packed_link.specs.declared.Translated.{Translated}
 
 abbrev pub translated : ℕ → ℕ → Translated
@@ -44,8 +43,7 @@ told_link (Ok d) = tell (d.used ∷ d.written ∷ [])
 told_link (Err r) = tell_refused r (0 ∷ 0 ∷ [])
 
 abbrev pub mti_fault : Script → Cause
-mti_fault Plain = mti_not_digits
-mti_fault Packed = not_bcd
+mti_fault S = fault_in S mti_not_digits
 
 -- 02: "22 in the places (field and position too; for the MTI, the bad byte) of 3"
 unfoldable pub link_head : Script → ℕ → List ℕ → Result ℕ Refusal

@@ -9,7 +9,7 @@ ghost use Rattle.bitmap.specs.Bitmaps.{fields_of};
 ghost use Rattle.bitmap_read.specs.Found.{maps_of};
 ghost use Rattle.packed_field.specs.Scripts.{size_of, other};
 ghost use Rattle.packed_field.specs.Items.{is_content, judge_item, content_size};
-ghost use Rattle.packed_link.specs.Link.{told_link, mti_fault, link_head, content_carried, item_carried, fields_judged, fields_carried, body_judged, body_carried, link_answer, link_output};
+ghost use Rattle.packed_link.specs.Link.{told_link, link_head, content_carried, item_carried, fields_judged, fields_carried, body_judged, body_carried, link_answer, link_output};
 
 use field_table::Class;
 use packed_field::{Item, Script};
@@ -87,7 +87,7 @@ impl Link<'_> {
         }
         let good = packed_field::lead_parts(&input[..start], self.script);
         if good < start {
-            return Err(mti_fault(self.script).at(0, good));
+            return Err(self.script.fault(Cause::MtiNotDigits).at(0, good));
         }
         bitmap_read::read_bitmaps(input, start)
     }
@@ -178,15 +178,6 @@ impl Link<'_> {
             self.script,
             &mut out[first..],
         );
-    }
-}
-
-fn mti_fault(script: Script) -> Cause
-    ensures { result ≡ mti_fault script }
-{
-    match script {
-        Script::Plain => Cause::MtiNotDigits,
-        Script::Packed => Cause::NotBcd,
     }
 }
 
