@@ -9,7 +9,7 @@ use lib.Seq.{drop-drop}
 use borrow.Rule.Slice.PartMut.{mid_of, put_mid}
 use Rattle.std.specs.Prelude.{Result, Ok, Err}
 use Rattle.octets.specs.Lists.{lay, placed}
-use Rattle.octets.proofs.Parts.{to_end, Written, written_none, written_more, written_end}
+use Rattle.octets.proofs.Parts.{to_end, Written, written_more, written_end}
 use Rattle.refusal.specs.declared.Cause.{Cause}
 use Rattle.field_table.specs.Table.{Table}
 use Rattle.field_read.specs.Items.{content_at, read_field, place_field}
@@ -36,10 +36,6 @@ pub record Noted (F : Form) (t : Table) (s fs : List ℕ) (start : ℕ) (d o : L
   pub room : w + note_size F * length (drop i fs) ≤ length d
   pub used : ℕ
   pub accepted : read_fields t at (drop i fs) (drop at s) ≡ Ok used
-
-pub noted_first : {F : Form} {t : Table} {s fs : List ℕ} {start u : ℕ} {d : List ℕ} → start ≤ length s → note_size F * length fs ≤ length d → read_fields t start fs (drop start s) ≡ Ok u → Noted F t s fs start d d start 0 0
-noted_first {F} {t} {s} {fs} {start} {u} {d} k r good =
-    record { inside = k; used = u; accepted = good; written = written_none (coming F t s start fs) d; room = omega (arith, r) }
 
 module _ {F : Form} {t : Table} {s fs : List ℕ} {start : ℕ} {d o : List ℕ} {at w i : ℕ} (c : Noted F t s fs start d o at w i) where
   -- where nothing more is coming, all is written

@@ -1,3 +1,2 @@
 pub mod Tests
 pub mod Conversions
-pub mod Checks
