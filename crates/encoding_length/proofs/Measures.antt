@@ -8,8 +8,6 @@ use lib.ListN.{length, take}
 use lib.Seq.{length-take-le}
 use borrow.Author.Tests.{eq-eqb, ne_eqb}
 use Rattle.std.specs.Prelude.{Result, Ok, Err}
-use Rattle.std.specs.Result.{IsErrAnd}
-use Rattle.std.proofs.lemmas.Result.{err_from_is_err_and}
 use Rattle.octets.specs.Lists.{all, lay}
 use Rattle.octets.specs.Numbers.{is_digit, decimal_of}
 use Rattle.octets.proofs.Cases.{by_bool}
@@ -32,10 +30,6 @@ pub record Measures (a : Result ℕ Refusal) (e : Encoding) (w : ℕ) (s : List 
 
 pub measures : {a : Result ℕ Refusal} {e : Encoding} {w : ℕ} {s : List ℕ} → a ≡ measured e w s → Measures a e w s
 measures h = record { answers = h; tells = ap told h }
-
--- a refusal that `?` hands on
-pub passed_on : {r : Result ℕ Refusal} {why : Refusal} → IsErrAnd r (λ x. x ≡ why) → r ≡ Err why
-passed_on {r} h = let found = err_from_is_err_and r h in found.1 ∙ ap Err found.2
 
 module _ (e : Encoding) (w : ℕ) (s : List ℕ) where
   measured_fails : (c : Cause) → decode_fault e w s ≡ bad c → Err (plain c) ≡ measured e w s

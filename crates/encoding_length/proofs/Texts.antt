@@ -4,19 +4,17 @@ use mathlib.Core.Path.{◌≡◌, refl, sym, ◌∙◌}
 use mathlib.Core.Bool.{true}
 use mathlib.Core.List.{List, [], ◌∷◌}
 use native.Mathlib.Omega.{arith}
-use borrow.Author.Tests.{lt-leb}
 use lib.ListN.{length, take, length-map}
 use lib.Seq.{take_at, length-take-le}
 use Rattle.std.specs.Prelude.{Result}
 use Rattle.octets.specs.Lists.{all, lay, placed}
 use Rattle.octets.specs.Numbers.{is_digit, is_ascii, decimal}
-use Rattle.octets.proofs.Cases.{by_lt, both_left, both_right}
+use Rattle.octets.proofs.Cases.{both_left, both_right}
 use Rattle.octets.proofs.Lists.{is_between, between_high, placed_fits, placed_length}
 use Rattle.octets.proofs.Numbers.{digits_length, digits_between}
-use Rattle.refusal.specs.Numbers.{output_too_short}
+use Rattle.refusal.proofs.Conversions.{room_fits}
 use Rattle.refusal.specs.Refusals.{Test, good, room, converted, converted_into}
 use Rattle.refusal.specs.declared.Refusal.{Refusal}
-use Rattle.refusal.proofs.Tests.{bad_good}
 use Rattle.encoding_bcd.specs.Bcd.{encode_fault as bcd_encode_fault}
 use Rattle.encoding_bcd.proofs.Unpacking.{unpacked_length}
 use Rattle.encoding_ebcdic.specs.Ebcdic.{ascii_of, encode_fault as ascii_fault}
@@ -76,8 +74,7 @@ bcd_clean t d = rw d
 -- copied bytes that fit are laid over the output
 pub copied : (r d e : List ℕ) → e ≡ placed r d → good ≡ room (length r) (length d) → e ≡ lay r d
 copied r d e w h =
-    w ∙ placed_fits r d (length r) refl
-    (by_lt (length d) (length r) (λ l. bad_good output_too_short (sym (h ∙ rw (lt-leb (length r) (length d) l)))) (λ g. g))
+    w ∙ placed_fits r d (length r) refl (room_fits (length r) (length d) h)
 
 -- the bytes of w digits spell w characters
 pub text_length : (e : Encoding) (w : ℕ) (s : List ℕ) → length s ≡ size_of e w → length (text_of e w s) ≡ w

@@ -5,8 +5,8 @@ use mathlib.Core.List.{List}
 use lib.ListN.{length}
 use borrow.Author.Tests.{lt-ltb, le-ltb}
 use Rattle.std.specs.Prelude.{Result, Ok, Err}
+use Rattle.refusal.proofs.Tests.{handed_on}
 use Rattle.std.specs.Result.{IsErrAnd}
-use Rattle.std.proofs.lemmas.Result.{err_from_is_err_and}
 use Rattle.octets.specs.Lists.{lay}
 use Rattle.refusal.specs.Numbers.{notes_too_short}
 use Rattle.refusal.specs.Refusals.{plain}
@@ -65,9 +65,8 @@ module _ (d : Dialect) (s b : List ℕ) where
 
 -- a refusal that is handed on as it is
 pub ends_passed : {d : Dialect} {s b after : List ℕ} {a : Result Accepted Refusal} {r : Refusal} → IsErrAnd a (λ x. x ≡ r) → Ends d s b (Err r) after → Ends d s b a after
-ends_passed {a = a} h e =
-    let p = err_from_is_err_and a h in
-    record { answer = p.1 ∙ ap Err p.2 ∙ e.answer; notes = e.notes }
+ends_passed h e =
+    record { answer = handed_on h ∙ e.answer; notes = e.notes }
 
 -- the numbers that `read` lends stand for another table
 module _ (t u : Table) (s b : List ℕ) (same : t ≡ u) where

@@ -23,7 +23,7 @@ use Rattle.bitmap.specs.Bitmaps.{fields_of}
 use Rattle.bitmap_read.specs.Found.{maps_of, bitmaps_read}
 use Rattle.message_notes.specs.Dialect.{Dialect, notes_room}
 use Rattle.message_reader.specs.Reader.{head_read, read_fields, read_body, read_message, read_answer}
-use Rattle.message_reader.proofs.Results.{by_result, never, same_err}
+use Rattle.refusal.proofs.Results.{by_result, never, same_err}
 use Rattle.message_reader.proofs.Fields.{by_read, fields_refused, fields_read}
 use Rattle.message_reader.proofs.Language.{message_head_refused, message_refused, message_read}
 

@@ -20,7 +20,7 @@ use Rattle.message_notes.proofs.Spelling.{entry_at_lem}
 use Rattle.message_notes.proofs.Apart.{notes_apart}
 use Rattle.message_reader.specs.Reader.{acceptance, read_message, read_answer, reading_with, notes_after}
 use Rattle.message_reader.specs.Demand3.{Reads, HouseReads}
-use Rattle.message_reader.proofs.Results.{never}
+use Rattle.refusal.proofs.Results.{never}
 use Rattle.message_reader.proofs.Language.{accepts, accepted, reading_is, one_length, one_message, one_reading}
 use Rattle.message_reader.proofs.Small.{entries_fit, used_small, room_enough}
 

@@ -16,7 +16,7 @@ use Rattle.field_read.specs.declared.Content.{Content}
 use Rattle.field_read.proofs.Found.{Found, found, reads, read_placed}
 use Rattle.message_language.specs.Language.{Item, Entry, entry, Fields, none, more}
 use Rattle.message_reader.specs.Reader.{read_fields, entry_found, entries_of}
-use Rattle.message_reader.proofs.Results.{never}
+use Rattle.refusal.proofs.Results.{never}
 
 -- one field more
 module _ (t : Table) (at f : ℕ) (fs s : List ℕ) where

@@ -16,7 +16,7 @@ use Rattle.refusal.specs.Numbers.{message_too_short, mti_not_digits}
 use Rattle.refusal.specs.Refusals.{refusal, plain}
 use Rattle.bitmap_read.proofs.Found.{FoundMaps, maps_least, maps_found, maps_read}
 use Rattle.message_reader.specs.Reader.{head_read}
-use Rattle.message_reader.proofs.Results.{never}
+use Rattle.refusal.proofs.Results.{never}
 
 -- What it means that a head with k bitmaps is read, where at most m are taken.
 pub record Headed (m : ℕ) (s : List ℕ) (k : ℕ) : Type 0 where

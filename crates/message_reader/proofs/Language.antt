@@ -15,7 +15,7 @@ use Rattle.message_language.specs.Language.{Reading, Message, Begins}
 use Rattle.message_notes.specs.Dialect.{Dialect, Sound}
 use Rattle.message_reader.specs.declared.Accepted.{Accepted}
 use Rattle.message_reader.specs.Reader.{acceptance, head_read, entries_of, read_body, read_message, reading_with}
-use Rattle.message_reader.proofs.Results.{by_result, never, same_ok}
+use Rattle.refusal.proofs.Results.{by_result, never, same_ok}
 use Rattle.message_reader.proofs.Heads.{Headed, head_found, head_reads}
 use Rattle.message_reader.proofs.Fields.{taken, Given, given}
 

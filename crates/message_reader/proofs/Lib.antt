@@ -1,4 +1,3 @@
-pub mod Results
 pub mod Answers
 pub mod Binary
 pub mod Demand3

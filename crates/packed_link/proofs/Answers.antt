@@ -6,17 +6,16 @@ use lib.ListN.{length, take, drop}
 use borrow.Author.Tests.{le-leb, lt-leb}
 use Rattle.std.specs.Prelude.{Result, Ok, Err}
 use Rattle.std.specs.Result.{IsErrAnd}
-use Rattle.std.proofs.lemmas.Result.{err_from_is_err_and}
 use Rattle.octets.specs.Lists.{lay}
 use Rattle.refusal.specs.Numbers.{output_too_short}
-use Rattle.refusal.specs.Refusals.{plain, good, bad, room}
+use Rattle.refusal.specs.Refusals.{plain, bad, room}
 use Rattle.refusal.specs.declared.Cause.{Cause}
-use Rattle.refusal.proofs.Tests.{bad_good}
-use Rattle.octets.proofs.Cases.{by_lt}
 use Rattle.refusal.specs.declared.Refusal.{Refusal}
 use Rattle.field_table.specs.Table.{Table}
 use Rattle.bitmap.specs.Bitmaps.{fields_of}
 use Rattle.bitmap_read.specs.Found.{maps_of}
+use Rattle.refusal.proofs.Tests.{handed_on}
+use Rattle.refusal.proofs.Conversions.{room_short}
 use Rattle.packed_field.specs.declared.Script.{Script}
 use Rattle.packed_field.specs.Scripts.{other, size_of, carried}
 use Rattle.packed_link.specs.declared.Translated.{Translated}
@@ -25,14 +24,6 @@ use Rattle.packed_link.specs.Link.{told_link, link_head, fields_judged, fields_c
 pub record Ends (S : Script) (t : Table) (m : ℕ) (s out : List ℕ) (r : Result Translated Refusal) (after : List ℕ) : Type 0 where
   pub answer : r ≡ link_answer S t m s out
   pub output : after ≡ link_output S t m s out
-
--- a refusal that `?` hands on
-passed_on : {A : Type 0} {r : Result A Refusal} {why : Refusal} → IsErrAnd r (λ x. x ≡ why) → r ≡ Err why
-passed_on {A} {r} h = let found = err_from_is_err_and r h in found.1 ∙ ap Err found.2
-
--- what the test of the room finds
-pub fits : (n k : ℕ) → good ≡ room n k → n ≤ k
-fits n k h = by_lt k n (λ l. bad_good output_too_short (sym (h ∙ rw (lt-leb n k l)))) (λ g. g)
 
 head_judged : (S : Script) (t : Table) (m : ℕ) (s : List ℕ) (k : ℕ) → link_head S m s ≡ Ok k → link_judged S t m s ≡ body_judged S t s k
 unfolding link_judged
@@ -49,23 +40,19 @@ module _ (S : Script) (t : Table) (m : ℕ) (s out : List ℕ) {a : Result Trans
 
   pub ends_head : {r : Refusal} → IsErrAnd a (λ x. x ≡ r) → Err r ≡ link_head S m s → Ends S t m s out a out
   unfolding link_judged
-  ends_head {r} h e = bad_judged r (passed_on h) (rw (link_judged, ← e))
+  ends_head {r} h e = bad_judged r (handed_on h) (rw (link_judged, ← e))
 
   module _ (k : ℕ) (head : link_head S m s ≡ Ok k) where
     pub ends_refused : {r : Refusal} → IsErrAnd a (λ x. x ≡ r) → body_judged S t s k ≡ Err r → Ends S t m s out a out
-    ends_refused {r} h e = bad_judged r (passed_on h) (head_judged S t m s k head ∙ e)
+    ends_refused {r} h e = bad_judged r (handed_on h) (head_judged S t m s k head ∙ e)
 
     module _ (d : Translated) (clean : body_judged S t s k ≡ Ok d) where
       pub ends_short : {c : Cause} → IsErrAnd a (λ x. x ≡ plain c) → bad c ≡ room d.written (length out) → Ends S t m s out a out
       unfolding link_answer
       ends_short {c} h e =
-          by_lt (length out) d.written
-          (λ l.
-          let same : bad c ≡ bad output_too_short = e ∙ rw (lt-leb d.written (length out) l) in
-          let is : c ≡ output_too_short = cc in
-          refused (plain output_too_short) (passed_on h ∙ ap (λ (x : Cause). Err (plain x)) is)
-          (rw (link_answer, head_judged S t m s k head ∙ clean, lt-leb d.written (length out) l)))
-          (λ g. bad_good c (e ∙ rw (le-leb d.written (length out) g)))
+          let short = room_short d.written (length out) e in
+          refused (plain output_too_short) (handed_on h ∙ ap (λ (x : Cause). Err (plain x)) short.0)
+          (rw (link_answer, head_judged S t m s k head ∙ clean, lt-leb d.written (length out) short.1))
 
       pub ends_done : a ≡ Ok d → d.written ≤ length out → (after : List ℕ) → after ≡ lay (body_carried S t s k) out → Ends S t m s out a after
       unfolding link_answer link_output link_carried

@@ -17,7 +17,7 @@ use Rattle.packed_field.specs.Items.{content_size, item_at, judge_item}
 use Rattle.packed_link.specs.declared.Translated.{Translated}
 use Rattle.packed_link.specs.Link.{translated, item_carried, fields_judged, fields_carried}
 use Rattle.packed_link.proofs.Fields.{fields_refused, fields_good, carried_good}
-use Rattle.message_reader.proofs.Results.{by_result, never, same_ok}
+use Rattle.refusal.proofs.Results.{by_result, never, same_ok}
 use Rattle.packed_language.specs.Packed.{Allowed, AllAllowed, none, more}
 use Rattle.packed_trips.proofs.Forms.{content_in, fields_in}
 use Rattle.packed_trips.proofs.Items.{length_sized, content_sized, content_out, item_found, item_across, item_read, item_behind, item_allowed, item_form, item_out, item_takes}

@@ -11,7 +11,7 @@ use Rattle.field_table.specs.Table.{Table, Small}
 use Rattle.bitmap.specs.Bitmaps.{count_of, fields_of}
 use Rattle.bitmap_read.specs.Found.{maps_of}
 use Rattle.message_contents.specs.Contents.{numbers_in}
-use Rattle.message_reader.proofs.Results.{by_result, never}
+use Rattle.refusal.proofs.Results.{by_result, never}
 use Rattle.packed_field.specs.declared.Script.{Script}
 use Rattle.packed_field.specs.Scripts.{other, size_of, is_spelt, digits_of, spelt_in, carried}
 use Rattle.packed_field.proofs.Scripts.{digits_long, digits_are, spelt_again, spelling_long, spelling_good, spelling_back}

@@ -28,7 +28,7 @@ use Rattle.bitmap.specs.Bits.{bit_of}
 use Rattle.bitmap.specs.Bitmaps.{is_field, has_field, fields_from, fields_of}
 use Rattle.bitmap_read.specs.Found.{maps_of, bitmaps_read}
 use Rattle.message_reader.specs.Reader.{head_read}
-use Rattle.message_reader.proofs.Results.{by_result, never, same_err}
+use Rattle.refusal.proofs.Results.{by_result, never, same_err}
 use Rattle.packed_field.specs.declared.Script.{Script}
 use Rattle.packed_field.specs.declared.Script.TheVariants.{Plain, Packed}
 use Rattle.packed_field.specs.declared.Item.{Item}

@@ -18,7 +18,7 @@ use Rattle.field_table.specs.House.{house}
 use Rattle.field_table.proofs.Rows.{house_small}
 use Rattle.message_language.specs.Language.{Reading, Begins}
 use Rattle.message_contents.specs.Contents.{contents_in}
-use Rattle.message_reader.proofs.Results.{by_result, never, same_ok}
+use Rattle.refusal.proofs.Results.{by_result, never, same_ok}
 use Rattle.packed_field.specs.declared.Script.{Script}
 use Rattle.packed_field.specs.declared.Script.TheVariants.{Plain, Packed}
 use Rattle.packed_field.specs.Scripts.{other}

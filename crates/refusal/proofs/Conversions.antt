@@ -53,10 +53,10 @@ module _ {t : Test} (r d : List ℕ) (clean : good ≡ t) {n : ℕ} (sized : len
   converted_into_fits h = rw (← clean) (sym (placed_fits r d n sized h))
 
 -- What the test of the room finds.
-room_fits : (n k : ℕ) → good ≡ room n k → n ≤ k
+pub room_fits : (n k : ℕ) → good ≡ room n k → n ≤ k
 room_fits n k h = by_lt k n (λ l. bad_good output_too_short (sym (h ∙ rw (lt-leb n k l)))) (λ g. g)
 
-room_short : {c : Cause} (n k : ℕ) → bad c ≡ room n k → (c ≡ output_too_short) × (k < n)
+pub room_short : {c : Cause} (n k : ℕ) → bad c ≡ room n k → (c ≡ output_too_short) × (k < n)
 room_short {c} n k h =
     by_lt k n
     (λ l. let e : bad c ≡ bad output_too_short = h ∙ rw (lt-leb n k l) in (cc, l))

@@ -24,7 +24,7 @@ use Rattle.message_contents.specs.Contents.{Content, content, contents_in, messa
 use Rattle.message_contents.proofs.Made.{no_member}
 use Rattle.message_notes.specs.Dialect.{Dialect, Sound}
 use Rattle.message_notes.specs.Notes.{mti_in, count_in}
-use Rattle.message_reader.proofs.Results.{by_result}
+use Rattle.refusal.proofs.Results.{by_result}
 use Rattle.message_walk.specs.Walk.{walked, entries_in}
 use Rattle.message_walk.specs.Faults.{any, within}
 use Rattle.message_walk.proofs.Agreeing.{Agree, same_walked, same_entries}

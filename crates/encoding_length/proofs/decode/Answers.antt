@@ -1,7 +1,8 @@
 -- One law for each end, in the order of the tests.
 use mathlib.Core.Path.{refl, sym, ap, ◌∙◌}
 use Rattle.std.specs.Prelude.{Err}
-use Rattle.encoding_length.proofs.Measures.{measures, digits_wrong, bytes_wrong, passed_on, passed_up, read_room, read_count, read_few, measured_text}
+use Rattle.refusal.proofs.Tests.{handed_on}
+use Rattle.encoding_length.proofs.Measures.{measures, digits_wrong, bytes_wrong, passed_up, read_room, read_count, read_few, measured_text}
 use Rattle.encoding_length.proofs.decode.Goals as goal
 
 pub returns-then-not-is_width : goal.returns-then-not-is_width
@@ -18,7 +19,7 @@ returns-then-src-size_of c =
 pub returns-in_err-n : goal.returns-in_err-n
 returns-in_err-n c =
     let wide = sym c.is_width.ensures ∙ c.if-not-is_width.false in
-    let r = measures (passed_on c.from_residual.ensures.1 ∙ passed_up _ _ _ _ wide (c.if-src-size_of.false ∙ c.size_of.ensures) refl c.in_err-n.ensures.answers) in
+    let r = measures (handed_on c.from_residual.ensures.1 ∙ passed_up _ _ _ _ wide (c.if-src-size_of.false ∙ c.size_of.ensures) refl c.in_err-n.ensures.answers) in
     record { answers = r.answers; tells = r.tells }
 
 pub slice_bounds-text-end : goal.slice_bounds-text-end

@@ -7,7 +7,8 @@ use Rattle.bitmap.proofs.Fields.{fields_few}
 use Rattle.bitmap_read.specs.Found.{maps_of}
 use Rattle.packed_field.specs.Scripts.{size_of}
 use Rattle.packed_link.proofs.Heads.{mti_small, head_few, head_room, list_is}
-use Rattle.packed_link.proofs.Answers.{fits, ends_head, ends_refused, ends_short, ends_done, body_said}
+use Rattle.refusal.proofs.Conversions.{room_fits}
+use Rattle.packed_link.proofs.Answers.{ends_head, ends_refused, ends_short, ends_done, body_said}
 use Rattle.packed_link.proofs.Link.translate.Goals as goal
 
 pub returns-in_err-bitmaps : goal.returns-in_err-bitmaps
@@ -53,11 +54,11 @@ write_message-requires c =
     record {
       headed = (sym c.in_ok-bitmaps.ensures);
       listed = listed;
-      judged = (_, ((body_said _ (decoded c.args.self.now.table.now) _ _ _ listed _ _ _ _ c.size_of-start.ensures c.other.ensures c.size_of.ensures c.in_ok-judged.ensures), fits _ _ c.in_ok-check_room.ensures));
+      judged = (_, ((body_said _ (decoded c.args.self.now.table.now) _ _ _ listed _ _ _ _ c.size_of-start.ensures c.other.ensures c.size_of.ensures c.in_ok-judged.ensures), room_fits _ _ c.in_ok-check_room.ensures));
     }
 
 pub returns : goal.returns
 returns c =
     let listed = list_is _ _ _ _ _ _ (sym c.in_ok-bitmaps.ensures) c.size_of-start.ensures c.list_fields-list.ensures c.as_slice-fields.ensures in
-    let e = ends_done _ _ _ _ _ _ (sym c.in_ok-bitmaps.ensures) _ (body_said _ (decoded c.args.self.now.table.now) _ _ _ listed _ _ _ _ c.size_of-start.ensures c.other.ensures c.size_of.ensures c.in_ok-judged.ensures) refl (fits _ _ c.in_ok-check_room.ensures) _ c.write_message.ensures in
+    let e = ends_done _ _ _ _ _ _ (sym c.in_ok-bitmaps.ensures) _ (body_said _ (decoded c.args.self.now.table.now) _ _ _ listed _ _ _ _ c.size_of-start.ensures c.other.ensures c.size_of.ensures c.in_ok-judged.ensures) refl (room_fits _ _ c.in_ok-check_room.ensures) _ c.write_message.ensures in
     record { answers = e.answer; writes = e.output }
