@@ -1,4 +1,5 @@
 pub mod Cases
+pub mod Fronts
 pub mod Lists
 pub mod Numbers
 pub mod Numerals

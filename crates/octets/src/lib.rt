@@ -9,7 +9,7 @@ ghost use Rattle.octets.specs.Numerals.{digit_count, numeral};
 // The last byte of ASCII.
 pub const LAST_ASCII: u8 = 127;
 
-// A byte as a number that can be reckoned with. Kept beside `usize::from`: its promise and its must-fail edit stay.
+// A byte as a number that can be reckoned with.
 pub fn wide(b: u8) -> usize
     ensures value { result ≡ b }
     ensures small { result < 256 }
@@ -52,7 +52,10 @@ pub fn put(src: &[u8], out: &mut [u8])
     ensures { out.new ≡ placed src.now out.old }
 {
     if src.len() <= out.len() {
-        out[..src.len()].copy_from_slice(src);
+        // By index: the library's `copy_from_slice` calls `memmove`, which a program that links libdesk.a would have to bring.
+        for (k, b) in src.iter().enumerate() {
+            out[k] = *b;
+        }
     }
 }
 
@@ -128,7 +131,7 @@ fn number_of(s: &[u8], base: usize, first: u8) -> usize
 {
     let mut n = 0;
     for b in s {
-        n = n * base + usize::from(b.saturating_sub(first));
+        n = n * base + wide(b.saturating_sub(first));
     }
     n
 }

@@ -9,7 +9,7 @@ pub overflow_mul-n : goal.overflow_mul-n
 overflow_mul-n c = omega (arith, number_fits _ _ 0 _ _ c.requires.digits c.loop-b.invariant.0 (omega arith) c.loop-b-test.true c.requires.fits)
 
 pub overflow_add-n : goal.overflow_add-n
-overflow_add-n c = omega (arith, number_fits _ _ c.from.result _ _ c.requires.digits c.loop-b.invariant.0 (omega arith) c.loop-b-test.true c.requires.fits)
+overflow_add-n c = omega (arith, number_fits _ _ c.wide.result _ _ c.requires.digits c.loop-b.invariant.0 (omega arith) c.loop-b-test.true c.requires.fits)
 
 pub loop-b-preserved : goal.loop-b-preserved
 loop-b-preserved c = (
