@@ -11,7 +11,7 @@ use lib.Dec.{T, eqb, ltb, eqb→eq, ltb→lt}
 use lib.ListN.{length, take, get_or, set, replicate, length-map, length-append, length-drop}
 use borrow.Rule.Slice.PartMut.{mid_of, put_mid}
 use borrow.Author.Tests.{eq-eqb, ne_eqb}
-use Rattle.octets.specs.Lists.{both, either, between, placed}
+use Rattle.octets.specs.Lists.{both, either, between, lay, placed}
 use Rattle.octets.proofs.Cases.{false_true, by_bool, by_eq, by_le}
 use Rattle.octets.proofs.Tables.{below, at, passed_left, passed_right}
 use Rattle.octets.proofs.Lists.{placed_done}
@@ -191,8 +191,17 @@ module _ (s o : List ℕ) (i n : ℕ) (c : Filling s o i n) where
       ∙ length-append (fields_from (has_field s) (8 * i) 1) (fields_from (has_field s) (192 - 8 * i) (1 + 8 * i)) ∙ rw f in
       omega (arith, l, written_room (fields_of s 3) (replicate 192 0) o (left s i) n c.written, fields_most (has_field s) (8 * i) 1)
 
-  pub filling_end : min (length s) 24 ≤ i → take n o ≡ fields_of s 3
-  filling_end h = let w = rw (left_end s i h) at c.written in sym (append-nil (take n o)) ∙ w.front
+  pub filling_end : min (length s) 24 ≤ i → (n ≡ length (fields_of s 3)) × (o ≡ lay (fields_of s 3) (replicate 192 0))
+  filling_end h = written_end (fields_of s 3) (replicate 192 0) o (left s i) n c.written (left_end s i h)
+
+  filling_front : min (length s) 24 ≤ i → take n o ≡ fields_of s 3
+  filling_front h = let w = rw (left_end s i h) at c.written in sym (append-nil (take n o)) ∙ w.front
+
+  -- they are the list, as its type has it
+  pub filling_list : min (length s) 24 ≤ i → ((n ≤ 192) × (o ≡ lay (take n o) (replicate 192 0))) × (take n o ≡ fields_of s 3)
+  filling_list h =
+      let few : n ≤ 192 = omega (arith, (filling_end h).0, fields_most (has_field s) 192 1) in
+      ((few, rw (filling_front h) (filling_end h).1), filling_front h)
 
   module _ (more : i < min (length s) 24) where
     pub filling_lent : 8 ≤ length (mid_of n (192 - n) o)

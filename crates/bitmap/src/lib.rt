@@ -14,19 +14,29 @@ pub struct FieldSet {
     bits: [u8; 24],
 }
 
-// Fields as a list, in fixed memory: their numbers, at the front of 192 bytes. Contracts see the numbers alone.
-#[derive(Drop)]
+// Fields as a list, in fixed memory: their numbers, at the front of 192 bytes; the others are zero. Contracts see the numbers alone, from
+// which the bytes follow.
+#[derive(Clone, Copy)]
 pub struct FieldList {
     count: usize,
     numbers: [u8; 192],
 }
 
 impl Model for FieldList {
+    ghost use Rattle.std.specs.Prelude.{◌≡◌, ℕ, ◌*◌, ◌≤◌, List, length, take, replicate};
+    ghost use Rattle.std.proofs.Common.{sym};
+    ghost use Rattle.octets.specs.Lists.{lay};
+    ghost use Rattle.octets.proofs.Fronts.{front_length};
+
     ghost Value = { List ℕ };
 
     ghost view = { λ l. take l.count l.numbers };
 
-    ghost invariant = { λ l. l.count ≤ 192 };
+    ghost invariant = { λ l. (l.count ≤ 192) × (l.numbers ≡ lay (take l.count l.numbers) (replicate 192 0)) };
+
+    ghost inverse = { λ v. record { count = length v; numbers = lay v (replicate 192 0) } };
+
+    ghost inverse_ok = { λ l h i. record { count = front_length 192 l.count l.numbers h.0 h.1 i; numbers = sym h.1 i } };
 }
 
 impl FieldList {
