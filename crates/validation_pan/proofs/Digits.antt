@@ -1,30 +1,32 @@
 -- The digits among the bytes of a content: counted from the left, weighed from the right. Assumes nothing.
-use Prim.Native.Nat.{ℕ, suc, ◌+◌, ◌-◌, ◌%◌, ◌≤◌, ◌<◌}
+use Prim.Native.Nat.{ℕ, ◌+◌, ◌-◌, ◌%◌, ◌≤◌, ◌<◌}
 use mathlib.Core.Path.{◌≡◌, refl, sym, ap, ◌∙◌}
 use mathlib.Core.Bool.{Bool, true, false, not}
 use mathlib.Core.List.{List, [], ◌∷◌, ◌++◌, reverse, reverse-append}
 use native.Mathlib.Omega.{arith}
-use lib.ListN.{length}
-use Rattle.std.proofs.Common.{count_by, filter}
+use native.Mathlib.Numerals.{add-one}
+use lib.ListN.{length, drop, get_or, drop_of_length-le}
+use lib.Seq.{drop-cons}
 use Rattle.std.proofs.lemmas.List.{nil_from_length}
-use Rattle.std.proofs.lemmas.List.Sums.{length-filter}
 use Rattle.std.specs.List.{push}
 use Rattle.octets.specs.Numbers.{is_digit}
 use Rattle.octets.proofs.Cases.{by_bool}
 use Rattle.octets.proofs.Lists.{between_low}
 use Rattle.validation_pan.specs.Pan.{digits_in, worth, weighed, luhn_sum}
 
-digits_kept : (s : List ℕ) → length (filter is_digit s) ≡ length (digits_in s)
-unfolding digits_in
-digits_kept [] = refl
-digits_kept (x ∷ s) =
-    by_bool (is_digit x)
-    (λ y. rw y (ap suc (digits_kept s)))
-    (λ n. rw n (digits_kept s))
+-- A loop that counts: those counted so far, and those in the rest.
+module _ (s : List ℕ) (i count : ℕ) (so_far : length (digits_in s) ≡ count + length (digits_in (drop i s))) where
+  pub counted_digit : i < length s → (flag : Bool) → flag ≡ is_digit (get_or s i 0) → flag ≡ true → length (digits_in s) ≡ (count + 1) + length (digits_in (drop (i + 1) s))
+  unfolding digits_in
+  counted_digit h flag e t = so_far ∙ rw (drop-cons s i 0 h, sym e ∙ t, add-one i) (omega arith)
 
--- as many as pass the test
-pub digits_counted : (s : List ℕ) → count_by is_digit s ≡ length (digits_in s)
-digits_counted s = sym (length-filter is_digit s) ∙ digits_kept s
+  pub counted_other : i < length s → (flag : Bool) → flag ≡ is_digit (get_or s i 0) → flag ≡ false → length (digits_in s) ≡ count + length (digits_in (drop (i + 1) s))
+  unfolding digits_in
+  counted_other h flag e t = so_far ∙ rw (drop-cons s i 0 h, sym e ∙ t, add-one i)
+
+  pub counted_all : length s ≤ i → count ≡ length (digits_in s)
+  unfolding digits_in
+  counted_all h = sym (so_far ∙ rw (drop_of_length-le s {i = i} h) (omega arith))
 
 digits_append : (s t : List ℕ) → digits_in (s ++ t) ≡ digits_in s ++ digits_in t
 unfolding digits_in

@@ -42,9 +42,14 @@ fn is_pan(content: &[u8]) -> bool
 fn count_digits(s: &[u8]) -> usize
     ensures { result ≡ length (digits_in s.now) }
 {
-    s.iter()
-        .filter(|b| octets::is_between(**b, b'0', b'9'))
-        .count()
+    // A loop: `filter` and `count` take half as many instructions again on a long content.
+    let mut count: usize = 0;
+    for b in s {
+        if octets::is_between(*b, b'0', b'9') {
+            count += 1;
+        }
+    }
+    count
 }
 
 // The sum over the digits of s, from the right, modulo 10: every second one is doubled. Bytes that are no digits are passed over.
