@@ -11,6 +11,7 @@ ghost use Rattle.message_write.specs.Written.{cleaned_answer, cleaned_padded};
 ghost use Rattle.packed_link.specs.Link.{told_link};
 ghost use Rattle.desk_terms.specs.Terms.{reading, written, cleaned, found, translation, measurement, judgement, encoded_by, encoded_into, decoded_by};
 
+use bitmap::FieldSet;
 use encoding_length::Encoding;
 use message_lookup::Place;
 use message_reader::Accepted;
@@ -167,31 +168,29 @@ impl From<Result<usize, Refusal>> for Written {
 impl From<Result<message_write::Cleaned, Refusal>> for Cleaned {
     ghost from_gives = { λ a r. r ≡ cleaned (told (cleaned_answer a)) (cleaned_padded a) };
 
-    #[tactic(auto, unfolding(crate::specs::Terms::cleaned, crate::specs::Terms::word_at, crate::specs::Terms::written))]
     fn from(answer: Result<message_write::Cleaned, Refusal>) -> Cleaned {
         match answer {
-            Ok(cleaned) => {
-                let bits = cleaned.padded.to_bytes();
-                Cleaned {
-                    number: 0,
-                    field: 0,
-                    position: 0,
-                    length: cleaned.length as u64,
-                    padded1: octets::big_endian_of(&bits[0..8]) as u64,
-                    padded2: octets::big_endian_of(&bits[8..16]) as u64,
-                    padded3: octets::big_endian_of(&bits[16..24]) as u64,
-                }
-            }
-            Err(why) => Cleaned {
-                number: why.cause.number() as u64,
-                field: why.field as u64,
-                position: why.position as u64,
-                length: 0,
-                padded1: 0,
-                padded2: 0,
-                padded3: 0,
-            },
+            Ok(cleaned) => tell_cleaned(Ok(cleaned.length), cleaned.padded),
+            Err(why) => tell_cleaned(Err(why), FieldSet::none()),
         }
+    }
+}
+
+// A cleaning's answer and a set of fields, told: the set in its three words, whatever the answer is.
+#[tactic(auto, unfolding(crate::specs::Terms::cleaned, crate::specs::Terms::word_at))]
+pub fn tell_cleaned(answer: Result<usize, Refusal>, padded: FieldSet) -> Cleaned
+    ensures { result ≡ cleaned (told answer) padded.bits }
+{
+    let told = Written::from(answer);
+    let bits = padded.to_bytes();
+    Cleaned {
+        number: told.number,
+        field: told.field,
+        position: told.position,
+        length: told.length,
+        padded1: octets::big_endian_of(&bits[0..8]) as u64,
+        padded2: octets::big_endian_of(&bits[8..16]) as u64,
+        padded3: octets::big_endian_of(&bits[16..24]) as u64,
     }
 }
 
