@@ -6,5 +6,5 @@ use std::io;
 
 fn main(rt: HostRuntime) {
     // The status is 0 whatever fails (docs/DECISIONS.md, T5).
-    let _ = till_report::print_report(&mut rt.reader(), &mut io::writer(&rt));
+    let _ = till_report::try_print_report(&mut rt.reader(), &mut io::writer(&rt));
 }

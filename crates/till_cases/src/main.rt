@@ -17,7 +17,7 @@ fn run(rt: &HostRuntime, name: &str) -> io::Result<()> {
         Ok(mut file) => {
             println!(rt; "{name}")?;
             // As in the till program, a read or a write that fails ends nothing.
-            let _ = till_report::print_report(&mut file, &mut io::writer(rt));
+            let _ = till_report::try_print_report(&mut file, &mut io::writer(rt));
             Ok(())
         }
         Err(why) => eprintln!(rt; "{name}: {why}"),

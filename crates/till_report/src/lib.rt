@@ -11,9 +11,14 @@ ghost use Rattle.till_lines.specs.Lines.{input_most, report_of};
 use std::io;
 use std::io::{Read, Write};
 
-// Reads to the end, or one byte further than a report takes, and prints the report of what was read. A read that fails counts as the
-// end: the report is printed, and then the error answered.
-pub fn print_report<R: Read, W: Write>(from: &mut R, to: &mut W) -> io::Result<()>
+// Reads to the end, or one byte further than a report takes, and prints the report of what was read. It cannot fail: a read that fails counts
+// as the end, and what cannot be printed is dropped (docs/DECISIONS.md, T5).
+pub fn print_report<R: Read, W: Write>(from: &mut R, to: &mut W) {
+    let _ = try_print_report(from, to);
+}
+
+// The same, and tells whether a read or a write failed: where a read did, the report is printed, and then the error answered.
+pub fn try_print_report<R: Read, W: Write>(from: &mut R, to: &mut W) -> io::Result<()>
     ensures reads { OnOk result (IfSome (R.remaining from.old) (λ xs. Consumes (Some xs) (R.remaining from.new) (take (input_most + 1) xs))) }
     ensures prints { OnOk result (IfSome (R.remaining from.old) (λ xs. Appends (W.contents to.old) (W.contents to.new) (report_of (dialect house) xs))) }
 {

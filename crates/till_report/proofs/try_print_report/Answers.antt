@@ -4,7 +4,7 @@ use Rattle.std.proofs.lemmas.Result.{on_ok_weaker}
 use Rattle.field_table.specs.House.{house}
 use Rattle.message_notes.specs.Dialect.{dialect}
 use Rattle.till_report.proofs.Reading.{first_read, taken, report_whole}
-use Rattle.till_report.proofs.print_report.Goals as goal
+use Rattle.till_report.proofs.try_print_report.Goals as goal
 
 pub returns-clause-reads : goal.returns-clause-reads
 returns-clause-reads g c =
