@@ -2,14 +2,13 @@
 // the answer here. The stored output is what the Rust crate answered: oracle/README.md says how both files are made.
 #![tactic(auto)]
 
-ghost use Rattle.std.specs.Prelude.{◌<◌};
+ghost use Rattle.std.specs.Prelude.{◌<◌, ◌≤◌};
 
 use bitmap::FieldSet;
 use encoding_length::Encoding;
 use message_reader::Accepted;
 use refusal::{Cause, Refusal};
-use std::alloc::Global;
-use std::io::{BufReader, BufWriter, Read, Write};
+use std::io::{Cursor, Read, Write};
 use std::{fmt, io};
 
 // The most cases that are run.
@@ -18,15 +17,30 @@ const CASES: usize = 100_000;
 // The most bytes of an input, and of what is written.
 const ROOM: usize = 1200;
 
+// The most bytes of a case behind its front: two for each byte of the input, and the end of the line.
+const TEXT_ROOM: usize = 2 * ROOM + 1;
+
 // The notes of any message fit in this.
 const NOTES_ROOM: usize = 1531;
 
-// A case: a letter for its kind, an argument and the input.
+// What is printed of any case fits in this.
+const LINE_ROOM: usize = 4096;
+
+// A case: a letter for its kind, an argument, and the input, the first `size` bytes of `room`. One whose line is cut is the last.
 #[derive(Drop)]
 struct Case {
     kind: u8,
     argument: u8,
-    input: Vec<u8>,
+    room: [u8; ROOM],
+    size: usize,
+    is_cut: bool,
+    ghost fits: { size ≤ 1200 },
+}
+
+impl Case {
+    fn input(&self) -> &[u8] {
+        &self.room[..self.size]
+    }
 }
 
 // What a line says of a case. Refusals are cases of it: by its kind a line says that alone, or with a field or a number.
@@ -55,53 +69,63 @@ struct Written<'a>(Option<&'a [u8]>);
 #[derive(Drop)]
 struct Hex<'a>(&'a [u8]);
 
-// What cannot be read or printed ends the cases, and with status 0.
+// The status is 0 whatever is read, and whatever cannot be printed.
 fn main(rt: HostRuntime) {
-    let _ = replay(&rt);
+    replay(&mut rt.stdin(), &mut io::writer(&rt));
 }
 
-fn replay(rt: &HostRuntime) -> io::Result<()> {
-    let mut from = BufReader::new(rt.alloc(), rt.reader())?;
-    let mut to = BufWriter::new(rt.alloc(), io::writer(rt))?;
+// Answers each case before it reads the next, and takes from the input what is the cases' and no more.
+fn replay<R: Read, W: Write>(from: &mut R, to: &mut W) {
     for _ in 0..CASES {
-        let Some(case) = read_case(rt.alloc(), &mut from)? else {
-            break;
+        let Some(case) = read_case(from) else {
+            return;
         };
-        print_answer(&case, &mut to)?;
+        print_answer(&case, to);
+        if case.is_cut {
+            return;
+        }
     }
-    to.flush()
 }
 
 // Reads the next case, if there is one: a letter, then in hexadecimal the input's size (two bytes), an argument (one) and the input.
-fn read_case<R: Read>(alloc: Global, from: &mut R) -> io::Result<Option<Case>> {
-    let front = read_up_to(alloc, from, 9)?;
-    let Some(front) = front.first_chunk::<9>() else {
-        return Ok(None);
-    };
+fn read_case<R: Read>(from: &mut R) -> Option<Case> {
+    let mut front = [0u8; 9];
+    if !fill(from, &mut front) {
+        return None;
+    }
     let mut numbers = [0u8; 3];
     decode_hex(&front[2..8], &mut numbers);
     let [high, low, argument] = numbers;
     let size = usize::from(u16::from_be_bytes([high, low]));
     if size > ROOM {
-        return Ok(None);
+        return None;
     }
     // Of a line that is cut, what is missing counts as zeros.
-    let mut line = read_up_to(alloc, from, 2 * size + 1)?;
-    line.resize(2 * size, 0)?;
-    let mut input = vec![in alloc; 0; size]?;
-    decode_hex(&line, &mut input);
-    Ok(Some(Case {
+    let mut text = [0u8; TEXT_ROOM];
+    let line = &mut text[..2 * size + 1];
+    let is_cut = !fill(from, line);
+    let mut room = [0u8; ROOM];
+    decode_hex(line, &mut room[..size]);
+    Some(Case {
         kind: front[0],
         argument,
-        input,
-    }))
+        room,
+        size,
+        is_cut,
+    })
 }
 
-// Reads so many bytes, or all that are left where these are fewer.
-fn read_up_to<R: Read>(alloc: Global, from: &mut R, most: usize) -> io::Result<Vec<u8>> {
-    let mut bytes = Vec::new(alloc);
-    from.take(most as u64).read_to_end(&mut bytes)?;
-    Ok(bytes)
+// Reads until buf is full, the input ends or a read fails, and answers whether it is full. What was read before a failure stays in buf.
+// By index: `read_exact` says nothing of the bytes before a failure, and they count.
+fn fill<R: Read>(from: &mut R, buf: &mut [u8]) -> bool {
+    let mut done = 0;
+    while done < buf.len() {
+        match from.read(&mut buf[done..]) {
+            Ok(0) | Err(_) => return false,
+            Ok(n) => done += n,
+        }
+    }
+    true
 }
 
 fn decode_hex(text: &[u8], out: &mut [u8]) {
@@ -117,13 +141,17 @@ fn hex_value(b: u8) -> u8
     if b < 58 { b % 16 } else { (b % 16 + 9) % 16 }
 }
 
-// Prints the line of a case.
-fn print_answer<W: Write>(case: &Case, to: &mut W) -> io::Result<()> {
+// Prints the line of a case, all at once. What cannot be printed is dropped.
+fn print_answer<W: Write>(case: &Case, to: &mut W) {
     let mut notes = [0u8; NOTES_ROOM];
     let mut out = [0u8; ROOM];
-    match answer_case(case, &mut notes, &mut out) {
-        Some(answer) => writeln!(to, "{answer}"),
-        None => writeln!(to),
+    let mut line = Cursor::new([0u8; LINE_ROOM]);
+    let _ = match answer_case(case, &mut notes, &mut out) {
+        Some(answer) => writeln!(line, "{answer}"),
+        None => writeln!(line),
+    };
+    if let Some(text) = line.get_ref().get(..line.position() as usize) {
+        let _ = to.write_all(text);
     }
 }
 
@@ -131,7 +159,7 @@ fn print_answer<W: Write>(case: &Case, to: &mut W) -> io::Result<()> {
 // By the letter and no enum of kinds: a letter is met here alone, in the arm that answers it.
 fn answer_case<'a>(case: &'a Case, notes: &'a mut [u8], out: &'a mut [u8]) -> Option<Answer<'a>> {
     let argument = usize::from(case.argument);
-    let input = case.input.as_slice();
+    let input = case.input();
     Some(match case.kind {
         b'r' => tell_read(input, notes),
         b'c' => {
