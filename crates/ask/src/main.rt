@@ -20,77 +20,71 @@
 #![tactic(auto)]
 
 mod answer;
+mod input;
+mod output;
 mod question;
 mod room;
 mod spelling;
 mod words;
 
+use input::Input;
+use output::Output;
 use question::Question;
-use std::alloc::Global;
-use std::io::{self, BufRead, BufReader, Read, Write};
-use words::{Fault, Words};
+use spelling::MOST_BYTES;
+use std::fmt::Write;
+use std::io;
+use words::{NoQuestion, Spaces, Understood, Words};
 
 // The most bytes of a line, its end included.
 const LINE_ROOM: usize = 8192;
 
-fn main(rt: HostRuntime) -> io::Result<()> {
-    let alloc = rt.alloc();
-    let mut input = BufReader::new(alloc, rt.reader())?;
-    let mut output = io::writer(&rt);
-    let mut line = Vec::with_capacity(alloc, LINE_ROOM)?;
+// It cannot fail: memory is fixed, a read that fails is taken for the end of the input, and what cannot be printed is dropped.
+fn main(rt: HostRuntime) {
+    let mut input = Input::new(rt.stdin());
+    let mut output = Output::new(io::writer(&rt));
+    let mut line = [0; LINE_ROOM];
+    let mut spaces: Spaces = [[0; MOST_BYTES]; 2];
     for _ in 0..u64::MAX {
-        line.clear();
-        // A read that fails is taken for the end of the input.
-        let _ = input
-            .by_ref()
-            .take(LINE_ROOM as u64)
-            .read_until(b'\n', &mut line);
-        let reply = match line.as_slice() {
-            [] => return Ok(()),
-            [text @ .., b'\n'] => reply_to(alloc, text)?,
-            text if text.len() < LINE_ROOM => reply_to(alloc, text)?,
+        match input.read_line(&mut line) {
+            [] => return,
+            [text @ .., b'\n'] => reply_to(text, &mut spaces, &mut output),
+            text if text.len() < LINE_ROOM => reply_to(text, &mut spaces, &mut output),
+            // The answer comes first, since such a line need not end.
             _ => {
-                let _ = input.skip_until(b'\n');
-                no_question(alloc, b"too long")?
+                say_no_question(b"too long", &mut output);
+                input.skip_line();
             }
-        };
-        // What cannot be printed is dropped, and the lines behind it are still answered.
-        let _ = output.write_all(reply.as_slice());
+        }
     }
-    Ok(())
 }
 
-// The line that is printed for a line.
-fn reply_to(alloc: Global, line: &[u8]) -> io::Result<Vec<u8>> {
+// Prints the line that is printed for a line.
+fn reply_to<W: io::Write>(line: &[u8], spaces: &mut Spaces, output: &mut Output<W>) {
     if line.is_empty() || line.starts_with(b"#") {
-        return printed(alloc, b"", line);
+        output.print(line);
+        output.end_line();
+    } else if let Ok((understood, question)) = understand(line, spaces) {
+        // Neither fails, since the output drops what cannot be written.
+        let _ = write!(output, "{understood} -> ");
+        let _ = question.tell(output);
+        output.end_line();
+    } else {
+        say_no_question(line, output);
     }
-    match answered(alloc, line) {
-        Ok(text) => printed(alloc, b"", text.as_bytes()),
-        Err(Fault::NoQuestion) => no_question(alloc, line),
-        Err(Fault::OutOfMemory(why)) => Err(io::Error::from(why)),
-    }
 }
 
-fn no_question(alloc: Global, line: &[u8]) -> io::Result<Vec<u8>> {
-    printed(alloc, b"not a question: ", line)
+fn say_no_question<W: io::Write>(line: &[u8], output: &mut Output<W>) {
+    output.print(b"not a question: ");
+    output.print(line);
+    output.end_line();
 }
 
-// By bytes, since those of a line need not be text.
-fn printed(alloc: Global, front: &[u8], line: &[u8]) -> io::Result<Vec<u8>> {
-    let mut bytes = Vec::new(alloc);
-    bytes.extend_from_slice(front)?;
-    bytes.extend_from_slice(line)?;
-    bytes.push(b'\n')?;
-    Ok(bytes)
-}
-
-// The question as it was understood, and what the routine answers.
-fn answered(alloc: Global, line: &[u8]) -> Result<String, Fault> {
-    let mut words = Words::new(alloc, line)?;
+// The question, and its words as they were understood.
+fn understand<'a>(
+    line: &'a [u8],
+    spaces: &'a mut Spaces,
+) -> Result<(Understood<'a>, Question<'a>), NoQuestion> {
+    let mut words = Words::new(line, spaces)?;
     let question = Question::from_words(&mut words)?;
-    let mut text = words.finish()?;
-    text.push_str(" -> ")?;
-    question.tell(&mut text)?;
-    Ok(text)
+    Ok((words.finish()?, question))
 }

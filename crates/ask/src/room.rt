@@ -1,31 +1,37 @@
 // The bytes that are lent for writing.
 
-use crate::spelling::{MOST_BYTES, Spelt};
-use crate::words::Fault;
-use std::alloc::{AllocError, Global};
-use std::fmt::{Display, Write};
+ghost use Rattle.std.specs.Prelude.{◌≤◌};
 
-// Bytes to lend to a routine, filled so that one that is left as it was shows.
-#[derive(Drop)]
-pub(crate) struct Room(Vec<u8>);
+use crate::spelling::{MOST_BYTES, Spelt};
+use crate::words::NoQuestion;
+use std::fmt::{self, Display, Write};
+
+// How many bytes to lend to a routine.
+#[derive(Clone, Copy)]
+pub(crate) struct Room {
+    size: usize,
+    ghost within: { size ≤ 2048 },
+}
 
 impl Room {
-    pub(crate) fn new(alloc: Global, size: usize) -> Result<Self, Fault> {
+    pub(crate) fn new(size: usize) -> Result<Self, NoQuestion> {
         if size > MOST_BYTES {
-            return Err(Fault::NoQuestion);
+            return Err(NoQuestion);
         }
-        Ok(Room(vec![in alloc; 0xEE; size]?))
+        Ok(Room { size })
     }
 
-    // Lends the bytes to a routine, and tells what it answers and what it leaves in them.
-    pub(crate) fn lend<D: Display + Drop, F: FnOnce(&mut [u8]) -> D>(
-        mut self,
-        to: &mut String,
+    // Lends the bytes to a routine, filled so that one that is left as it was shows, and tells what it answers and what it leaves in them.
+    pub(crate) fn lend<D: Display + Drop, F: FnOnce(&mut [u8]) -> D, W: Write>(
+        self,
+        to: &mut W,
         routine: F,
-    ) -> Result<(), AllocError>
+    ) -> fmt::Result
         requires { F.IsAlwaysCallable routine }
     {
-        let answer = routine(&mut self.0);
-        write!(to, "{answer}, out {}", Spelt(&self.0))
+        let mut space = [0xEE; MOST_BYTES];
+        let out = &mut space[..self.size];
+        let answer = routine(out);
+        write!(to, "{answer}, out {}", Spelt(out))
     }
 }

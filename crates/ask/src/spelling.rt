@@ -2,8 +2,7 @@
 
 ghost use Rattle.std.specs.Prelude.{◌<◌, IfOk};
 
-use crate::words::{Fault, decimal};
-use std::alloc::Global;
+use crate::words::{NoQuestion, decimal};
 use std::fmt;
 
 // The most bytes that a word may spell, and that may be lent for writing.
@@ -12,48 +11,63 @@ pub(crate) const MOST_BYTES: usize = 2048;
 // The most equal bytes in a row that are printed with no star.
 const UNSTARRED: usize = 16;
 
-// The bytes that a word spells.
-pub(crate) fn spell(alloc: Global, word: &str) -> Result<Vec<u8>, Fault> {
-    let mut bytes = Vec::new(alloc);
+// The bytes that a word spells, in the space that is lent for them.
+pub(crate) fn spell<'a>(
+    word: &str,
+    space: &'a mut [u8; MOST_BYTES],
+) -> Result<&'a [u8], NoQuestion> {
     if word == "-" {
-        return Ok(bytes);
+        return Ok(&[]);
     }
+    let mut left = space.as_mut_slice();
     for part in word.split('+') {
-        let (digits, times) = match part.split_once('*') {
-            Some((digits, times)) => (digits, decimal(times)?),
-            None => (part, 1),
-        };
-        let part = decode_hex(alloc, digits)?;
-        let left = MOST_BYTES.saturating_sub(bytes.len());
-        // A part has to fit once, even where it is to stand there no times.
-        if left < part.len() || left < part.len().saturating_mul(times) {
-            return Err(Fault::NoQuestion);
-        }
-        for _ in 0..times {
-            bytes.extend_from_slice(&part)?;
-        }
+        left = spell_part(part, left)?;
     }
-    Ok(bytes)
+    let length = MOST_BYTES.saturating_sub(left.len());
+    space.get(..length).ok_or(NoQuestion)
 }
 
-fn decode_hex(alloc: Global, digits: &str) -> Result<Vec<u8>, Fault> {
-    if digits.is_empty() {
-        return Err(Fault::NoQuestion);
+// Puts the bytes of a part at the front of the space that is left, and answers what is left then.
+fn spell_part<'a>(part: &str, left: &'a mut [u8]) -> Result<&'a mut [u8], NoQuestion> {
+    let (digits, times) = match part.split_once('*') {
+        Some((digits, times)) => (digits, decimal(times)?),
+        None => (part, 1),
+    };
+    // A part has to fit once, even where it is to stand there no times.
+    let size = decode_hex(digits, left)?;
+    let length = size.saturating_mul(times);
+    let (bytes, left) = left.split_at_mut_checked(length).ok_or(NoQuestion)?;
+    for i in size..length {
+        bytes[i] = bytes[i - size];
     }
-    digits.as_bytes().chunks(2).map(hex_byte).try_collect(alloc)
+    Ok(left)
 }
 
-fn hex_byte(pair: &[u8]) -> Result<u8, Fault> {
+// Puts the bytes that digits spell at the front of the space, and answers how many they are.
+fn decode_hex(digits: &str, space: &mut [u8]) -> Result<usize, NoQuestion> {
+    let pairs = digits.as_bytes().chunks(2);
+    let size = pairs.len();
+    if size == 0 {
+        return Err(NoQuestion);
+    }
+    let bytes = space.get_mut(..size).ok_or(NoQuestion)?;
+    for (byte, pair) in bytes.iter_mut().zip(pairs) {
+        *byte = hex_byte(pair)?;
+    }
+    Ok(size)
+}
+
+fn hex_byte(pair: &[u8]) -> Result<u8, NoQuestion> {
     match pair {
         [high, low] => Ok(hex_value(*high)? * 16 + hex_value(*low)?),
-        _ => Err(Fault::NoQuestion),
+        _ => Err(NoQuestion),
     }
 }
 
-fn hex_value(digit: u8) -> Result<u8, Fault>
+fn hex_value(digit: u8) -> Result<u8, NoQuestion>
     ensures { IfOk result (λ value. value < 16) }
 {
-    let value = char::from(digit).to_digit(16).ok_or(Fault::NoQuestion)?;
+    let value = char::from(digit).to_digit(16).ok_or(NoQuestion)?;
     Ok(value as u8)
 }
 
