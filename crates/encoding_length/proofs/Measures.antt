@@ -11,7 +11,7 @@ use Rattle.std.specs.Prelude.{Result, Ok, Err}
 use Rattle.octets.specs.Lists.{all, lay}
 use Rattle.octets.specs.Numbers.{is_digit, decimal_of}
 use Rattle.octets.proofs.Cases.{by_bool}
-use Rattle.octets.proofs.Lists.{lay_length}
+use Rattle.octets.proofs.Fronts.{lay_length}
 use Rattle.refusal.specs.Numbers.{length_needs_digits, byte_count_wrong, length_not_digits}
 use Rattle.refusal.specs.Refusals.{plain, Test, good, bad, told, converted, converted_into}
 use Rattle.refusal.specs.declared.Cause.{Cause}

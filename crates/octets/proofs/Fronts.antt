@@ -1,4 +1,5 @@
--- A list that has zeros behind its front, told by that front. In a file of its own, since a struct's model cites it. Assumes nothing.
+-- A list laid over another, and one that has zeros behind its front, told by that front. Assumes nothing.
+-- In a file of its own: a struct's model cites it, and may not reach what the laws of loops (Lists) cite.
 use mathlib.Core.Path.{◌≡◌, ap, ◌∙◌}
 use mathlib.Core.List.{List}
 use Prim.Native.Nat.{ℕ, ◌≤◌}
@@ -7,9 +8,9 @@ use lib.ListN.{length, take, replicate, length-append, length-drop}
 use Rattle.std.proofs.lemmas.List.{length-take, length-take-le, length-replicate}
 use Rattle.octets.specs.Lists.{lay}
 
-laid_length : (r d : List ℕ) → length r ≤ length d → length (lay r d) ≡ length d
+pub lay_length : (r d : List ℕ) → length r ≤ length d → length (lay r d) ≡ length d
 unfolding lay
-laid_length r d h = simp (length-append, length-drop) (omega arith)
+lay_length r d h = simp (length-append, length-drop) (omega arith)
 
 pub front_length : (n c : ℕ) (o : List ℕ) → c ≤ n → o ≡ lay (take c o) (replicate n 0) → length (take c o) ≡ c
 front_length n c o h e = length-take-le c o (omega (arith, h, whole))
@@ -18,4 +19,4 @@ front_length n c o h e = length-take-le c o (omega (arith, h, whole))
     few = omega (arith, h, length-take c o, length-replicate {A = ℕ} n 0)
 
     whole : length o ≡ n
-    whole = ap length e ∙ laid_length (take c o) (replicate n 0) few ∙ length-replicate {A = ℕ} n 0
+    whole = ap length e ∙ lay_length (take c o) (replicate n 0) few ∙ length-replicate {A = ℕ} n 0

@@ -6,7 +6,7 @@ use Prim.Native.Nat.{ℕ, zero, suc, ◌+◌, ◌≤◌, ◌<◌}
 use native.Mathlib.Nat.{le_antisymm, le_of_suc-le-suc, not-suc-le-zero}
 use native.Mathlib.Numerals.{add-one}
 use native.Mathlib.Omega.{arith}
-use lib.ListN.{length, take, drop, get_or, set, length-append, length-drop, drop_of_length-le}
+use lib.ListN.{length, take, drop, get_or, set, drop_of_length-le}
 use lib.Seq.{take-length, length-take-le}
 use denote.Ref.{Bor}
 use denote.Param.Members.{Mut}
@@ -25,6 +25,7 @@ use lib.Dec.{eqb, leb, eqb-suc-suc}
 use borrow.Author.Tests.{le-leb, lt-leb, leb-true, ne_eqb}
 use Rattle.octets.specs.Lists.{between, all, lead, lay, placed}
 use Rattle.octets.proofs.Cases.{by_bool, both_left, both_right}
+use Rattle.octets.proofs.Fronts.{lay_length}
 
 -- between as facts
 pub is_between : (lo hi x : ℕ) → lo ≤ x → x ≤ hi → between lo hi x ≡ true
@@ -72,10 +73,6 @@ laid_step r d e i v he h k hv = rw (he, hv, add-one) (store r d i h k)
 pub laid_all : (r d e : List ℕ) (i : ℕ) → e ≡ laid r d i → i ≤ length r → length r ≤ i → e ≡ lay r d
 unfolding laid lay
 laid_all r d e i he h k = he ∙ ap (laid r d) (le_antisymm h k) ∙ ap (λ (l : List ℕ). l ++ drop (length r) d) (take-length r)
-
-pub lay_length : (r d : List ℕ) → length r ≤ length d → length (lay r d) ≡ length d
-unfolding lay
-lay_length r d h = simp (length-append, length-drop) (omega arith)
 
 -- bytes as long as the output are all of it
 pub lay_whole : (r d : List ℕ) → length d ≤ length r → lay r d ≡ r

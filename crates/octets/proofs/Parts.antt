@@ -8,7 +8,8 @@ use lib.ListN.{length, take, drop, get_or, set, length-set, length-append, lengt
 use lib.Seq.{take-append_seam, drop-append_seam, take_all, drop-cons, drop-drop, drop-set-lt, take-suc-set, take_at, drop_at, set_at}
 use borrow.Rule.Slice.PartMut.{mid_of, put_mid}
 use Rattle.octets.specs.Lists.{lay, placed}
-use Rattle.octets.proofs.Lists.{lay_length, placed_fits}
+use Rattle.octets.proofs.Fronts.{lay_length}
+use Rattle.octets.proofs.Lists.{placed_fits}
 
 -- a part to the end
 pub to_end : (n : ℕ) (s : List ℕ) → take (length s - n) (drop n s) ≡ drop n s

@@ -8,7 +8,8 @@ use borrow.Rule.Slice.PartMut.{mid_of, put_mid}
 use Rattle.octets.specs.Lists.{lay, placed}
 use Rattle.octets.specs.Numerals.{numeral}
 use Rattle.octets.specs.Texts.{text}
-use Rattle.octets.proofs.Lists.{lay_length, placed_fits}
+use Rattle.octets.proofs.Fronts.{lay_length}
+use Rattle.octets.proofs.Lists.{placed_fits}
 use Rattle.octets.proofs.Parts.{part_rest, lay_part, lay_byte, placed_part}
 use Rattle.till_lines.specs.Lines.{space, newline, named, tripled, mti_line}
 
