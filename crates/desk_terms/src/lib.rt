@@ -1,6 +1,6 @@
 // The terms in which other languages speak with the library: answers of numbers alone, and encodings by their numbers. An answer has
-// number, field and position first, all 0 where nothing is refused, then its values, all 0 where something is. Each struct is flat, since C
-// reads it so, and each `From` says the three members anew.
+// number, field and position first, all 0 where nothing is refused, then its values, all 0 where something is (`tell_cleaned` alone tells the set
+// that it is handed). Each struct is flat, since C reads it so, and what tells one says the three members anew.
 #![tactic(auto)]
 
 ghost use Rattle.std.specs.Prelude.{◌≡◌};
